@@ -42,7 +42,7 @@ def make_archive(folder, count):
     (folder / "words.gad").write_bytes(build(listed))
     (folder / "games").mkdir()
     files = {f"games/{number:05}.gcg": game for number, game in enumerate(games)}
-    files |= {"games/a\ttab": games[0], "games/back\\slash\\t": games[1], "games/empty.gcg": b"", "games/page.html": b"<html>\n", "games/-": games[0]}
+    files |= {"games/a\ttab": games[0], "games/back\\slash\\t": games[1], "games/empty.gcg": b"", "games/page.html": b"<html>\n", "games/-": games[0], "games/unread.gcg": games[0] + b"A: (time) -5 100\n"}
     wanted = {}
     for name, game in files.items():
         (folder / name).write_bytes(game)
@@ -98,7 +98,7 @@ class Scripts:
         self.lines.write_bytes(whole)
         self.run("What to admit")
         admitted = (self.folder / "admitted.txt").read_text().splitlines()
-        wanted = [it for it in first if (it["verdict"], it["ending"], it["unlisted"]) == ("legal", "complete", 0)]
+        wanted = [it for it in first if (it["verdict"], it["ending"], it["unlisted"], it["unread_lines"]) == ("legal", "complete", 0, 0)]
         self.expect(admitted == [tab_line(it).split("\t")[0] for it in wanted], "admitted", admitted)
         left = (self.folder / "left_out.tsv").read_text().splitlines()
         self.expect(len(admitted) + len(left) == len(first), "left out", len(left))

@@ -478,6 +478,7 @@ RACKS = [
         ">A: AAABCDE - +0 4\n",
         "illegal line 3: RackTooBig\n"
         "line 3: >A: AAABCDE - +0 4\n"
+        "After line 1 EINRS is left, but line 3 has no I.\n"
         "A has 7 tiles here, but by the lines below the rack would have to hold 11: AAABCDEINRS.\n"
         "  line 1 shows AEINRST and plays AT\n"
         "  line 3 shows AAABCDE\n",
@@ -572,6 +573,7 @@ RACKS = [
         ">A: KLMNOPQ - +0 0\n",
         "illegal line 5: RackTooBig\n"
         "line 5: >A: KLMNOPQ - +0 0\n"
+        "After line 3 DFGHJ is left, but line 5 has no D.\n"
         "A has 7 tiles here, but by the lines below the rack would have to hold 12: DFGHJKLMNOPQ.\n"
         "  line 1 shows AEI and exchanges AEI\n"
         "  line 3 shows BCDFGHJ and exchanges BC\n"
@@ -660,6 +662,30 @@ SLIPS = [
     ),
 ]
 
+# A wrong score, if the record stands with the play nowhere else: how the text begins.
+NOWHERE = [
+    (
+        "WORD\nAT\nRA\nDT",
+        ">A: DORWAAE 8E WORD +16 16\n"
+        ">B: 9F AT +9 8\n",
+        "illegal line 2: WrongScore 8\n"
+        "line 2: >B: 9F AT +9 8\n"
+        "The play scores 8, but 9 is written.\n"
+        "With 8 the total is 8, as is written.\n"
+        "AT\n",
+    ),
+    (
+        "WORD\nAT\nRA\nDT",
+        ">A: DORWAAE 8E WORD +16 16\n"
+        ">B: 9F AT +9 9\n"
+        ">A: - +0 17\n",
+        "illegal line 2: WrongScore 8\n"
+        "line 2: >B: 9F AT +9 9\n"
+        "The play scores 8, but 9 is written.\n"
+        "AT\n",
+    ),
+]
+
 # Lines that stand twice, in the wrong order or under the wrong name, and lines that are missing: how the text begins.
 ORDERS = [
     (
@@ -701,7 +727,18 @@ ORDERS = [
         "illegal line 2: NotYourTurn\n"
         "line 2: >A: 9G AT +9 25\n"
         "It is B's turn, not A's.\n"
-        "A line of B with +0 seems to be missing between lines 1 and 2.\n",
+        "A pass or an exchange of B seems to be missing between lines 1 and 2.\n",
+    ),
+    (
+        "AT",
+        ">A: 8E WORD +16 16\n"
+        ">A: - +0 16\n"
+        ">B: 9G AT +9 9\n"
+        ">A: - +0 17\n",
+        "illegal line 2: NotYourTurn\n"
+        "line 2: >A: - +0 16\n"
+        "It is B's turn, not A's.\n"
+        "A pass or an exchange of B seems to be missing between lines 1 and 2.\n",
     ),
     (
         "AT",
@@ -726,7 +763,8 @@ ORDERS = [
     ),
 ]
 
-# Records whose events the rules allow: plays that stand with words that are not in the list, and turns without a rack.
+# Records whose events the rules allow: plays that stand with words that are not in the list, turns without a rack or with a part of it, and a last rack
+# that is missing.
 NOTES = [
     (
         "AT\nRA",
@@ -747,7 +785,48 @@ NOTES = [
         "legal unfinished\n"
         "The rules allow every event, and a deal of the tiles gives the players every rack that is shown.\n"
         "Each word of every play that stands is in the word list.\n"
+        "Line 4 shows 3 of 7 tiles.\n"
         "No rack is shown on 2 turns: lines 1 and 2.\n",
+    ),
+    (
+        "WORD\nAT\nRA\nDT",
+        ">A: DORWAAE 8E WORD +16 16\n"
+        ">B: AT 9G AT +9 9\n",
+        "legal unfinished\n"
+        "The rules allow every event, and a deal of the tiles gives the players every rack that is shown.\n"
+        "Each word of every play that stands is in the word list.\n"
+        "Line 2 shows 2 of 7 tiles.\n"
+        "Every other turn shows its rack.\n",
+    ),
+    (
+        "AT",
+        ">A: - +0 0\n"
+        ">B: - +0 0\n"
+        ">A: - +0 0\n"
+        ">B: - +0 0\n"
+        ">A: - +0 0\n"
+        ">B: - +0 0\n"
+        ">A: (AEINRST) -7 -7\n",
+        "legal unfinished\n"
+        "The rules allow every event, and a deal of the tiles gives the players every rack that is shown.\n"
+        "Each word of every play that stands is in the word list.\n"
+        "No turn shows its rack.\n"
+        "A has lost the points of a rack, so there are no more turns. What is missing is B's last rack.\n",
+    ),
+    (
+        "QI",
+        ">A: 8E WORD +16 16\n"
+        ">B: 9G AT +9 9\n"
+        ">A: 10G ES +9 25\n"
+        ">B: 11G AT +11 20\n",
+        "legal unfinished\n"
+        "The rules allow every event, and a deal of the tiles gives the players every rack that is shown.\n"
+        "Line 1: A's play stands with WORD, which is not in the word list.\n"
+        "Line 2: B's play stands with AT, RA and DT, which are not in the word list.\n"
+        "Line 3: A's play stands with ES, RAE and DTS, which are not in the word list.\n"
+        "Line 4: B's play stands with AT, RAEA and DTST, which are not in the word list.\n"
+        "Perhaps the game was played with another word list.\n"
+        "No turn shows its rack.\n",
     ),
     (
         "AT",
@@ -824,7 +903,8 @@ RECORDS = [
         ">A: A 8E WORD +1 1 1\n",
         "bad record line 1: Fields\n"
         "line 1: >A: A 8E WORD +1 1 1\n"
-        "There are more than 5 fields after the colon, but an event has 3 to 5.\n",
+        "There are more than 5 fields after the colon, but an event has 3 to 5.\n"
+        "What comes after the total belongs on a line of its own that begins with #note.\n",
     ),
     (
         "AT",
@@ -1137,7 +1217,7 @@ def explain_rows(run):
     """Runs the program through all rows."""
     for words, record, text in [*PLAYS, *SCORES, *TOTALS, *TURNS, *CHALLENGES, *RACKS]:
         explain(run, 1, words, record, text)
-    for words, record, text in [*SLIPS, *ORDERS]:
+    for words, record, text in [*SLIPS, *NOWHERE, *ORDERS]:
         explain(run, 1, words, record, text, begins=True)
     for words, record, text in NOTES:
         explain(run, 0, words, record, text)

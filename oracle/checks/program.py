@@ -7,11 +7,13 @@ there are rows of lexicon files at the limits of their formats too, which take s
 import gzip
 import json
 import os
+import pty
 import resource
 import struct
 import subprocess
 import sys
 import tempfile
+import tty
 from pathlib import Path
 from urllib.parse import unquote
 
@@ -97,11 +99,12 @@ NO_EVENT = {  # what is said of a file without an event
         ("nothing -", "it is empty"),
         ("page", "it is HTML or another markup"),
         ("full-game named plain", "no line begins with >"),
-        ("indented", "its lines begin with blanks before the >"),
+        ("indented", "its lines begin with blanks before the >\nreferee: indented: line 1 is not read: it has a blank before its >"),
+        ("at word", "it is a word list, and the files are WORDS, LEXICON and GAME, in this order"),
         ("utf-16", "it is text in UTF-16, and records are read as UTF-8 or ISO-8859-1"),
         ("returns", "its lines end in CR alone, and not in LF or CR LF"),
         ("gzip", "it is compressed (gzip)"),
-        ("zip", "it is compressed (zip)"),
+        ("zip", "it is compressed (zip)\nreferee: zip: line 1 is not read: it has something before its >"),
         ("at.gad at-masks.gad", "it is a compiled lexicon"),
     ]
     for name in names.split()
@@ -131,6 +134,33 @@ ON_WORD = WORD + ">B: AT 9G AT +9 9\n"
 BY_HAND = "\ufeff#title Final, table 3\r\n#player1 A  Ann  Lee \r\n>A:\tDORWAAE   8e  WORD  16  +16 \r\n#note Ann: 16? yes: 16 16\r\n"
 OTHERS = "\t\r\n\r\n>A: - +0 016"
 
+UNREAD_LINES = [  # lines that are passed over: those from line 2 to line 9 and line 12 look like events, the others do not
+    " >A: (time) -5 11",
+    "\u00a0\t>A: (time) -5 11",
+    "2. >A: (time) -5 11",
+    "=A: (time) -5 11",
+    "A: (time) -5 11",
+    "A (time) -5 11",
+    "A: DORWAAEX 8H AT +9 9",
+    "8H +9 9",
+    "#note x",
+    "8H AT 9 9",
+    "A: (time) -5 11",
+    "",
+    "A: well played, 16 points of 31",
+    "8E WORD 16",
+]
+UNREAD = {  # the number and the reason of each
+    2: ("blank before >", "it has a blank before its >"),
+    3: ("blank before >", "it has a blank before its >"),
+    4: ("something before >", "it has something before its >"),
+    5: ("another sign than >", "it begins with another sign than >"),
+    6: ("no >", "it has no > in front"),
+    7: ("parts of an event", "it has a position or a code and two numbers, but no > in front"),
+    8: ("parts of an event", "it has a position or a code and two numbers, but no > in front"),
+    9: ("parts of an event", "it has a position or a code and two numbers, but no > in front"),
+    12: ("no >", "it has no > in front"),
+}
 TEXTS = {
     "people": "\ufeffAT\r\nit's\n\nAT 4\nA\nABCDEFGHIJKLMNOP\n# it\nit",
     "by-hand": f"{BY_HAND}>B: AT 9G AT +10 +010{OTHERS}",
@@ -211,6 +241,13 @@ TEXTS = {
     "caf\u00e9": WORD,
     "score-and-sum": ">A: DORWAAE 8E WORD +18 19\n",
     "sum-then-turn": ">A: DORWAAE 8E WORD +16 15\n>B: (time) +0 4\n",
+    "unread": WORD + "A: (time) -5 11\n",
+    "unread-kinds": WORD + "".join(f"{line}\n" for line in UNREAD_LINES),
+    "unread-many": WORD + 12 * "A: - +0 16\n",
+    "unread-alone": "A: 8E WORD +16 16\n",
+    "bad-twice": ">A: 8E WORD +x 16\n>B: 8H +9 9\nA: - +0 16\n>B: - +0 0\n>C: AEINRST - 0\n",
+    "two-marks": WORD + ">B: - +0 0\n>>A: - +0 16\n",
+    "time-rack": WORD + ">B: (TIME) -10 -10\n",
     "untidy": "\ufeff#player1 A  Ann Lee\r\n#note x\n>A:\tDORWAAE  8e WORD 16 16\r\n",
 }
 
@@ -284,38 +321,43 @@ def many_words():
 # What `archive` says of a game by the list WORD, or by WORD, AT and RA, and the status of it alone.
 ARCHIVED = {
     "word": [
-        ("line", "legal unfinished - - 1 A 16 - - 0", 0),
-        ("ends", "legal complete - - 8 A -7 B -7 0", 0),
-        ("unknown", "legal unfinished - - 3 A 0 B 0 0", 0),
-        ("two-of-seven", "legal unfinished - - 3 A 0 B 0 0", 0),
-        ("line-18", "illegal - 1 WrongScore_16 1 A 18 - - -", 1),
-        ("line-17", "illegal - 1 WrongTotal_16 1 A 17 - - -", 1),
-        ("line-8d", "illegal - 1 MissesCentre 1 A 16 - - -", 1),
-        ("turn", "illegal - 2 NotYourTurn 2 A 16 - - -", 1),
-        ("blanks", "illegal - 2 TilesShort_? 2 A 0 B 0 0", 1),
-        ("one-q", "illegal - 3 NoDeal 3 A 0 B 0 0", 1),
-        ("one-of-seven", "illegal - 3 NoDeal 3 A 0 B 0 0", 1),
-        ("too-soon", "illegal - 6 NotOver 6 A 0 B -7 -", 1),
-        ("third", "bad_record - 3 ThirdPlayer - - - - - -", 3),
-        ("number", "bad_record - 1 Number - - - - - -", 3),
-        ("long-game", "bad_record - - TooLong - - - - - -", 3),
-        ("nothing", "no_game - - - 0 - - - - 0", 3),
-        ("page", "no_game - - - 0 - - - - 0", 3),
-        ("utf-16", "no_game - - - 0 - - - - 0", 3),
-        ("indented", "no_game - - - 0 - - - - 0", 3),
-        ("named", "no_game - - - 0 Ann - Bob - 0", 3),
-        ("nowhere", "unread - - cannot_open - - - - - -", 4),
-        ("no/where", "unread - - cannot_open - - - - - -", 4),
-        ("", "unread - - cannot_open - - - - - -", 4),
-        ("folder", "unread - - is_a_folder - - - - - -", 4),
+        ("line", "legal unfinished - - 1 A 16 - - 0 0", 0),
+        ("ends", "legal complete - - 8 A -7 B -7 0 0", 0),
+        ("unknown", "legal unfinished - - 3 A 0 B 0 0 0", 0),
+        ("two-of-seven", "legal unfinished - - 3 A 0 B 0 0 0", 0),
+        ("line-18", "illegal - 1 WrongScore_16 1 A 18 - - - 0", 1),
+        ("line-17", "illegal - 1 WrongTotal_16 1 A 17 - - - 0", 1),
+        ("line-8d", "illegal - 1 MissesCentre 1 A 16 - - - 0", 1),
+        ("turn", "illegal - 2 NotYourTurn 2 A 16 - - - 0", 1),
+        ("blanks", "illegal - 2 TilesShort_? 2 A 0 B 0 0 0", 1),
+        ("one-q", "illegal - 3 NoDeal 3 A 0 B 0 0 0", 1),
+        ("one-of-seven", "illegal - 3 NoDeal 3 A 0 B 0 0 0", 1),
+        ("too-soon", "illegal - 6 NotOver 6 A 0 B -7 - 0", 1),
+        ("third", "bad_record - 3 ThirdPlayer - - - - - - -", 3),
+        ("number", "bad_record - 1 Number - - - - - - -", 3),
+        ("long-game", "bad_record - - TooLong - - - - - - -", 3),
+        ("nothing", "no_game - - - 0 - - - - 0 0", 3),
+        ("page", "no_game - - - 0 - - - - 0 0", 3),
+        ("utf-16", "no_game - - - 0 - - - - 0 0", 3),
+        ("indented", "no_game - - - 0 - - - - 0 1", 3),
+        ("named", "no_game - - - 0 Ann - Bob - 0 0", 3),
+        ("nowhere", "unread - - cannot_open - - - - - - -", 4),
+        ("no/where", "unread - - cannot_open - - - - - - -", 4),
+        ("", "unread - - cannot_open - - - - - - -", 4),
+        ("folder", "unread - - is_a_folder - - - - - - -", 4),
     ],
     "word-at-ra": [
-        ("line", "legal unfinished - - 1 A 16 - - 0", 0),
-        ("unlisted", "legal unfinished - - 2 A 16 B 9 1", 0),
-        ("withdrawn", "legal unfinished - - 4 A 25 B 0 1", 0),
+        ("line", "legal unfinished - - 1 A 16 - - 0 0", 0),
+        ("unlisted", "legal unfinished - - 2 A 16 B 9 1 0", 0),
+        ("withdrawn", "legal unfinished - - 4 A 25 B 0 1 0", 0),
     ],
 }
-FIELDS = "name verdict ending line fault events player1 total1 player2 total2 unlisted".split()
+FIELDS = "name verdict ending line fault events player1 total1 player2 total2 unlisted unread_lines".split()
+
+
+def unread_field(text):
+    """The last field of a line whose other fields are these, of a record without lines that are not read."""
+    return "-" if text.startswith(("bad_record", "unread")) else "0"
 
 
 def told_of(name, text):
@@ -654,6 +696,7 @@ def topped(run):
         return run.row(["top", "at", "at.gad", game, rack], status, out)
 
     by_at("nothing", "?A", 0, "8G At 2\n8H At 2\nH7 At 2\nH8 At 2\n")
+    by_at("nothing", "?a", 0, "8G At 2\n8H At 2\nH7 At 2\nH8 At 2\n")
     ten = "8G AT 4\n8H AT 4\nH7 AT 4\nH8 AT 4\n8G At 2\n8G aT 2\n8H At 2\n8H aT 2\nH7 At 2\nH7 aT 2\n"
     by_at("nothing", "AT?", 0, ten)
     by_at("nothing", "Q", 0, "none\n")
@@ -662,7 +705,7 @@ def topped(run):
     # Deals are not judged: three blanks are shown, of which there are two.
     by_at("blanks", "?A", 0, "8G At 2\n8H At 2\nH7 At 2\nH8 At 2\n")
     by_at("number", "AT", 3, "bad record line 1: Number\n")
-    for rack in ("", "A1", "at", "AAAAAAAA"):
+    for rack in ("", "A1", "a1", "AAAAAAAA"):
         by_at("number", rack, 3, "bad rack\n")
     run.row(["top", "nothing", "nothing.gad", "nothing", "A"], 0, "none\n")
     run.row(["top", "digit", "extra.gad", "number", "A"], 3, "bad word list line 2: BadLetter\n")
@@ -719,7 +762,7 @@ def from_standard_input(run):
     """`-` is standard input for WORDS and GAME, once in a command line; LEXICON, RULES, OUT and a line of a list of names are files."""
     run.row(["build", "word", "word.gad"], 0)
     told = "legal unfinished\n1 A 8E WORD +16 16 best 8E WORD 16\n"
-    line, legal = TEXTS["line"], "\tlegal\tunfinished\t-\t-\t1\tA\t16\t-\t-\t0\n"
+    line, legal = TEXTS["line"], "\tlegal\tunfinished\t-\t-\t1\tA\t16\t-\t-\t0\t0\n"
     for more in ([], ["--settle"], ["--rules", "english.rules"], ["--settle", "--rules", "english.rules"]):
         run.row(["judge", *more, "word", "word.gad", "-"], 0, told, stdin=line)
         run.row(["judge", *more, "-", "word.gad", "line"], 0, told, stdin="WORD\n")
@@ -736,7 +779,7 @@ def from_standard_input(run):
     run.row(["archive", "-", "word.gad", "line"], 0, f"line{legal}", stdin="WORD\n")
     run.row(["archive", "word", "word.gad", "-", "line"], 0, f"-{legal}line{legal}", stdin=line)
     Path(run.folder, "names").write_text("-\nline\n")
-    unread = "\tunread\t-\t-\tcannot open\t-\t-\t-\t-\t-\t-\n"
+    unread = "\tunread\t-\t-\tcannot open\t-\t-\t-\t-\t-\t-\t-\n"
     run.row(["archive", "--names", "names", "word", "word.gad"], 4, f"-{unread}line{legal}", stdin=line)
     run.row(["archive", "--names", "-", "word", "word.gad"], 4, f"-{unread}line{legal}", stdin="-\nline\n")
     # Files are opened in their order, standard input among them, and only then read.
@@ -780,7 +823,7 @@ def fielded(run):
         for more in ([], ["--rules", "english.rules"]):
             run.row(["top", *more, "fields", name, "number", "A", "--first-field"], 3, bad or "bad record line 1: Number\n")
         run.row(["archive", "--first-field", "fields", name, "nowhere"], 4 if listed else 3,
-                bad or "nowhere\tunread\t-\t-\tcannot open\t-\t-\t-\t-\t-\t-\n")
+                bad or "nowhere\tunread\t-\t-\tcannot open\t-\t-\t-\t-\t-\t-\t-\n")
     Path(run.folder, "fields").write_text("AT 4\n")
     run.row(["check", "--first-field", "fields", "it-at.gad"], 3, "bad lexicon: Extra I\n")
     run.row(["top", "--first-field", "fields", "at.gad", "nothing", "?A"], 0, "8G At 2\n8H At 2\nH7 At 2\nH8 At 2\n")
@@ -812,7 +855,7 @@ def skipped(run):
     run.row(["check", "people", "it-at.gad"], 3, "bad word list line 2: BadLetter\n")
     run.row(["check", "--skip-others", "people", "nowhere"], 4, error="referee: cannot open nowhere: no such file")
     for command, out in (("judge", "legal unfinished\n1 A - +0 0 best 8G At 2\n"), ("audit", "legal unfinished\n"), ("explain", f"legal unfinished\n{STANDS}"),
-                         ("archive", "with-blank\tlegal\tunfinished\t-\t-\t1\tA\t0\t-\t-\t0\n")):
+                         ("archive", "with-blank\tlegal\tunfinished\t-\t-\t1\tA\t0\t-\t-\t0\t0\n")):
         run.row([command, "--skip-others", "people", "it-at.gad", "with-blank"], 0, None if command == "judge" else out, error=plain)
     run.row(["page", "--skip-others", "people", "it-at.gad", "with-blank", "out"], 0, "legal unfinished\n", error=plain)
     run.row(["top", "--skip-others", "people", "it-at.gad", "nothing", "?A"], 0, "8G At 2\n8H At 2\nH7 At 2\nH8 At 2\n", error=plain)
@@ -978,7 +1021,7 @@ def archived(run):
         run.row(["archive", "--progress", *names, *every], worst, "".join(lines), error=f"games done: {len(rows)}")
         objects = subprocess.run([run.program, "archive", "--json", *names, *every], cwd=run.folder, capture_output=True, check=False)
         told = [json.loads(text) for text in objects.stdout.decode().splitlines()]
-        run.expect("the names of a JSON object", all(list(it) == [*FIELDS, "fault_name", "expected"] for it in told))
+        run.expect("the names of a JSON object", all(list(it) == [*FIELDS[:-1], "fault_name", "expected", FIELDS[-1]] for it in told))
         faults = [None if it["fault"] is None or it["verdict"] == "unread" else it["fault"].split() for it in told]
         run.expect("the name of a fault", [it["fault_name"] for it in told] == [fault and fault[0] for fault in faults])
         wrong = [int(fault[1]) if fault and fault[0] in ("WrongScore", "WrongTotal") else None for fault in faults]
@@ -994,7 +1037,7 @@ def archived(run):
 
 
 def archived_repairs(run):
-    """`archive --repairs`: two more fields at the end of each line, after that of the page."""
+    """`archive --repairs`: two more fields of each line, after that of the page."""
     run.row(["build", "word-at-ra", "word-at-ra.gad"], 0)
     Path(run.folder, "stands-twice").write_text(WORD + ">B: AT 9G AT +9 9\n" * 2)
     rows = [  # a game, its line but for its name, its page, and its likely repair
@@ -1006,8 +1049,8 @@ def archived_repairs(run):
         ("nowhere", "unread - - cannot_open - - - - - -", "-", ("-", "-")),
     ]
     names = [name for name, _, _, _ in rows]
-    lines = ["\t".join([*told_of(name, text), *repair]) + "\n" for name, text, _, repair in rows]
-    paged = ["\t".join([*told_of(name, text), page, *repair]) + "\n" for name, text, page, repair in rows]
+    lines = ["\t".join([*told_of(name, text), *repair, unread_field(text)]) + "\n" for name, text, _, repair in rows]
+    paged = ["\t".join([*told_of(name, text), page, *repair, unread_field(text)]) + "\n" for name, text, page, repair in rows]
     run.row(["archive", "--repairs", "word-at-ra", "word-at-ra.gad", *names], 4, "".join(lines))
     run.row(["archive", "--repairs", "--pages", "pages/repaired", "word-at-ra", "word-at-ra.gad", *names], 4, "".join(paged))
     objects = subprocess.run([run.program, "archive", "--repairs", "--json", "word-at-ra", "word-at-ra.gad", *names], cwd=run.folder, capture_output=True, check=False)
@@ -1023,8 +1066,8 @@ def archived_repairs(run):
 
 def archived_names(run):
     """Where names stand, and how a line has them."""
-    legal = "\tlegal\tunfinished\t-\t-\t1\tA\t16\t-\t-\t0\n"
-    unread = "\tunread\t-\t-\tcannot open\t-\t-\t-\t-\t-\t-\n"
+    legal = "\tlegal\tunfinished\t-\t-\t1\tA\t16\t-\t-\t0\t0\n"
+    unread = "\tunread\t-\t-\tcannot open\t-\t-\t-\t-\t-\t-\t-\n"
     Path(run.folder, "names").write_bytes(b"line\n\n\nno\xff\xfewhere\ncaf\xc3\xa9\nback\\slash\ntab\there\nline\r\nline")
     out = f"line{legal}no\ufffd\ufffdwhere{unread}caf\u00e9{legal}back\\\\slash{legal}tab\\there{legal}line\r{unread}line{legal}"
     run.row(["archive", "--names", "names", "word", "word.gad"], 4, out)
@@ -1061,32 +1104,36 @@ def archived_inputs(run):
     for words in (["folder", "at.gad"], ["at", "folder"], ["--names", "folder", "at", "at.gad"], ["--rules", "folder", "digit", "at.gad"]):
         games = [] if "--names" in words else ["line"]
         run.row(["archive", *words, *games], 4, error="referee: read failed: folder: is a folder")
-    run.row(["archive", "--rules", "two-sets.rules", "at", "at.gad", "blanks"], 0, "blanks\tlegal\tunfinished\t-\t-\t2\tA\t0\tB\t0\t0\n")
-    run.row(["archive", "--rules", "fourteen.rules", "retains", "retains.gad", "goes-out"], 0, "goes-out\tlegal\tcomplete\t-\t-\t2\tA\t88\t-\t-\t0\n")
+    run.row(["archive", "--rules", "two-sets.rules", "at", "at.gad", "blanks"], 0, "blanks\tlegal\tunfinished\t-\t-\t2\tA\t0\tB\t0\t0\t0\n")
+    run.row(["archive", "--rules", "fourteen.rules", "retains", "retains.gad", "goes-out"], 0, "goes-out\tlegal\tcomplete\t-\t-\t2\tA\t88\t-\t-\t0\t0\n")
     run.row(["archive", "many", "at.gad", "line"], 4, error="referee: no memory", room=1 << 23)
     if os.path.exists("/dev/full"):
         run.row(["archive", "word", "word.gad", "nowhere", "line"], 4, error="referee: write failed: standard output: no space left, error 28 of the system", stdout="/dev/full")
         run.row(["archive", "digit", "word.gad", "line"], 4, error="referee: write failed: standard output: no space left, error 28 of the system", stdout="/dev/full")
 
 
-PAGED = [  # a game, its line but for its name and its page, the page, and the verdict and the totals in the index
-    ("line", "legal unfinished - - 1 A 16 - - 0", "line%.html", ["\u2713 legal: unfinished", "A", "16", "", ""]),
-    ("./line", "legal unfinished - - 1 A 16 - - 0", "%./line%.html", ["\u2713 legal: unfinished", "A", "16", "", ""]),
-    ("folder/../line", "legal unfinished - - 1 A 16 - - 0", "folder/%../line%.html", ["\u2713 legal: unfinished", "A", "16", "", ""]),
-    ("index", "legal unfinished - - 1 A 16 - - 0", "index%.html", ["\u2713 legal: unfinished", "A", "16", "", ""]),
-    ("index.gcg", "legal unfinished - - 1 A 16 - - 0", "index.gcg%.html", ["\u2713 legal: unfinished", "A", "16", "", ""]),
-    ("r1/final.gcg", "legal unfinished - - 1 A 16 - - 0", "r1/final.html", ["\u2713 legal: unfinished", "A", "16", "", ""]),
-    ("r2/final.gcg", "illegal - 1 WrongTotal_16 1 A 17 - - -", "r2/final.html", ["\u2717 illegal line 1: the total is wrong WrongTotal 16", "A", "17", "", ""]),
-    ("r2/100%", "legal unfinished - - 1 A 16 - - 0", "r2/100%25%.html", ["\u2713 legal: unfinished", "A", "16", "", ""]),
-    ("<b>&\"'.gcg", "legal unfinished - - 1 A 16 - - 0", "<b>&\"'.html", ["\u2713 legal: unfinished", "A", "16", "", ""]),
-    ("latin-stated", "legal unfinished - - 1 \u00c9va 16 - - 0", "latin-stated%.html", ["\u2713 legal: unfinished", "\u00c9va", "16", "", ""]),
-    ("unlisted", "legal unfinished - - 2 A 16 B 9 1", "unlisted%.html", ["\u2713 legal: unfinished, 1 play with an unlisted word", "A", "16", "B", "9"]),
-    ("turn", "illegal - 2 NotYourTurn 2 A 16 - - -", "turn%.html", ["\u2717 illegal line 2: it is the other player's turn NotYourTurn", "A", "16", "", ""]),
-    ("nothing", "no_game - - - 0 - - - - 0", "-", ["\u2013 no game", "", "", "", ""]),
-    ("third", "bad_record - 3 ThirdPlayer - - - - - -", "-", ["\u2013 bad record line 3: the nickname is a third one ThirdPlayer", "", "", "", ""]),
-    ("nowhere", "unread - - cannot_open - - - - - -", "-", ["\u2013 unread: cannot open", "", "", "", ""]),
-    ("..", "unread - - is_a_folder - - - - - -", "-", ["\u2013 unread: is a folder", "", "", "", ""]),
+PAGED = [  # a game, its line but for its name and its page, the page, and the verdict, the totals and the result in the index
+    ("line", "legal unfinished - - 1 A 16 - - 0", "line%.html", ["\u2713 legal: unfinished", "A", "16", "", "", "A is ahead by 16"]),
+    ("./line", "legal unfinished - - 1 A 16 - - 0", "%./line%.html", ["\u2713 legal: unfinished", "A", "16", "", "", "A is ahead by 16"]),
+    ("folder/../line", "legal unfinished - - 1 A 16 - - 0", "folder/%../line%.html", ["\u2713 legal: unfinished", "A", "16", "", "", "A is ahead by 16"]),
+    ("index", "legal unfinished - - 1 A 16 - - 0", "index%.html", ["\u2713 legal: unfinished", "A", "16", "", "", "A is ahead by 16"]),
+    ("index.gcg", "legal unfinished - - 1 A 16 - - 0", "index.gcg%.html", ["\u2713 legal: unfinished", "A", "16", "", "", "A is ahead by 16"]),
+    ("r1/final.gcg", "legal unfinished - - 1 A 16 - - 0", "r1/final.html", ["\u2713 legal: unfinished", "A", "16", "", "", "A is ahead by 16"]),
+    ("r2/final.gcg", "illegal - 1 WrongTotal_16 1 A 17 - - -", "r2/final.html", ["\u2717 illegal line 1: the total is wrong WrongTotal 16", "A", "17", "", "", "A is ahead by 17"]),
+    ("r2/100%", "legal unfinished - - 1 A 16 - - 0", "r2/100%25%.html", ["\u2713 legal: unfinished", "A", "16", "", "", "A is ahead by 16"]),
+    ("<b>&\"'.gcg", "legal unfinished - - 1 A 16 - - 0", "<b>&\"'.html", ["\u2713 legal: unfinished", "A", "16", "", "", "A is ahead by 16"]),
+    ("latin-stated", "legal unfinished - - 1 \u00c9va 16 - - 0", "latin-stated%.html", ["\u2713 legal: unfinished", "\u00c9va", "16", "", "", "\u00c9va is ahead by 16"]),
+    ("unlisted", "legal unfinished - - 2 A 16 B 9 1", "unlisted%.html", ["\u2713 legal: unfinished, 1 play with an unlisted word", "A", "16", "B", "9", "A is ahead by 7"]),
+    ("turn", "illegal - 2 NotYourTurn 2 A 16 - - -", "turn%.html", ["\u2717 illegal line 2: it is the other player's turn NotYourTurn", "A", "16", "", "", "A is ahead by 16"]),
+    ("nothing", "no_game - - - 0 - - - - 0", "-", ["\u2013 no game: it is empty", "", "", "", "", ""]),
+    ("third", "bad_record - 3 ThirdPlayer - - - - - -", "-", ["\u2013 bad record line 3: the nickname is a third one ThirdPlayer", "", "", "", "", ""]),
+    ("nowhere", "unread - - cannot_open - - - - - -", "-", ["\u2013 unread: cannot open", "", "", "", "", ""]),
+    ("..", "unread - - is_a_folder - - - - - -", "-", ["\u2013 unread: is a folder", "", "", "", "", ""]),
 ]
+IN_ORDER = [  # the rows of the index: by name, with numbers in names by their value
+    "..", "./line", "<b>&\"'.gcg", "folder/../line", "index", "index.gcg", "latin-stated", "line", "nothing", "nowhere", "r1/final.gcg", "r2/100%", "r2/final.gcg", "third", "turn",
+    "unlisted",
+]  # fmt: skip
 COUNTED = ["\u2713 10 legal", "\u2717 2 illegal", "\u2013 1 bad record", "\u2013 1 no game", "\u2013 2 unread"]
 
 
@@ -1096,7 +1143,7 @@ def archived_pages(run):
     for name, text in [("index", WORD), ("index.gcg", WORD), ("<b>&\"'.gcg", WORD), ("r1/final.gcg", WORD), ("r2/final.gcg", TEXTS["line-17"]), ("r2/100%", WORD)]:
         Path(run.folder, name).parent.mkdir(exist_ok=True)
         Path(run.folder, name).write_text(text)
-    lines = ["\t".join([*told_of(name, text), page]) + "\n" for name, text, page, _ in PAGED]
+    lines = ["\t".join([*told_of(name, text), page, unread_field(text)]) + "\n" for name, text, page, _ in PAGED]
     for order in (1, -1):
         run.row(["archive", "--pages", "pages/of/games", "word", "word.gad", *names[::order]], 4, "".join(lines[::order]))
     run.row(["archive", "--pages", "pages/of/games", "word", "word.gad", *names], 4, "".join(lines))
@@ -1111,33 +1158,97 @@ def archived_pages(run):
     whole = (pages / "index.html").read_bytes()
     run.expect("the counts of the index", [it.text() for it in web.read(whole).first("ul", "counts").all("li")] == COUNTED)
     rows = web.read(whole).first("tbody").all("tr")
-    run.expect("the rows of the index", [[it.text() for it in row.all("td")] for row in rows] == [[name, *cells] for name, _, _, cells in PAGED])
+    paged = {name: (page, cells) for name, _, page, cells in PAGED}
+    run.expect("the rows of the index", [[it.text() for it in row.all("td")] for row in rows] == [[name, *paged[name][1]] for name in IN_ORDER])
     links = [[unquote(it.attributes["href"]) for it in row.all("a")] for row in rows]
-    run.expect("the links of the index", links == [[page] if page != "-" else [] for _, _, page, _ in PAGED])
+    run.expect("the links of the index", links == [[paged[name][0]] if paged[name][0] != "-" else [] for name in IN_ORDER])
     told = subprocess.run([run.program, "archive", "--json", "--pages", "pages", "word", "word.gad", *names], cwd=run.folder, capture_output=True, check=False)
     objects = [json.loads(text) for text in told.stdout.decode().splitlines()]
-    named = all(list(it) == [*FIELDS, "page", "fault_name", "expected"] for it in objects)
+    named = all(list(it) == [*FIELDS[:-1], "page", "fault_name", "expected", FIELDS[-1]] for it in objects)
     run.expect("pages in JSON", named and [it["page"] or "-" for it in objects] == [page for _, _, page, _ in PAGED])
     refused_pages(run)
-    indexed(run, lines, told.stdout.decode(), whole)
+    kept_inputs(run)
+    named_pages(run)
+    indexed(run, lines, told.stdout.decode(), whole.replace(b": it is empty", b""))
+
+
+def named_pages(run):
+    """What the index has of names, titles and results; games whose names have numbers; and a likely repair, also by the lines of the run."""
+    folder = Path(run.folder, "rounds")
+    folder.mkdir()
+    names = "#title Final <3>\n#player1 A Ann \u05d0\n#player2 B Bob\n"
+    texts = {"t10": names + WORD, "t2": names + ON_WORD, "t1": WORD.replace("8E", "9E"), "t02": names + WORD}
+    for name, text in texts.items():
+        Path(folder, f"{name}.gcg").write_text(text)
+    run.row(["build", "word-at-ra", "word-at-ra.gad"], 0)
+    words, games = ["word-at-ra", "word-at-ra.gad"], [f"rounds/{name}.gcg" for name in sorted(texts)]
+    told = subprocess.run([run.program, "archive", "--repairs", "--pages", "rounded", *words, *games], cwd=run.folder, capture_output=True, check=False)
+    read = web.read(Path(run.folder, "rounded/index.html").read_bytes()).first("tbody").all("tr")
+    likely = "line 1: WORD at 8E, not at 9E"
+    cells = {
+        "t1": ["rounds/t1.gcg", f"\u2717 illegal line 1: the first play misses the centre MissesCentrelikely: {likely}", "A", "16", "", "", "A is ahead by 16"],
+        "t02": ["rounds/t02.gcgFinal <3>", "\u2713 legal: unfinished", "Ann \u05d0", "16", "Bob", "", "Ann \u05d0 is ahead by 16"],
+        "t2": ["rounds/t2.gcgFinal <3>", "\u2713 legal: unfinished, 1 play with an unlisted word", "Ann \u05d0", "16", "Bob", "9", "Ann \u05d0 is ahead by 7"],
+        "t10": ["rounds/t10.gcgFinal <3>", "\u2713 legal: unfinished", "Ann \u05d0", "16", "Bob", "", "Ann \u05d0 is ahead by 16"],
+    }
+    found = [[it.text() for it in row.all("td")] for row in read]
+    run.expect("names, titles, results and order", found == list(cells.values()))
+    run.expect("names by themselves", all(row.first("td", "pl").all("bdi") and row.first("td", "ld").all("bdi") for row in read))
+    run.row(["index", "-", "rounded/again.html"], 0, stdin=told.stdout.decode())
+    again = web.read(Path(run.folder, "rounded/again.html").read_bytes()).first("tbody").all("tr")
+    nicks = {"Ann \u05d0": "A", "Bob": "B"}
+    plain = [[nicks.get(it, it.replace("Final <3>", "").replace("Ann \u05d0", "A")) for it in row] for row in cells.values()]
+    run.expect("the index of the lines", [[it.text() for it in row.all("td")] for row in again] == plain)
+
+
+def kept_inputs(run):
+    """Pages that would be written over an input: the run is refused before anything is written, where the games are known before it."""
+    legal = "legal\tunfinished\t-\t-\t1\tA\t16\t-\t-\t0"
+    for folder, page, name in [("over-words", "index.html", "word"), ("over-game", "line%.html", "line"), ("over-other", "other%.html", "line"), ("over-list", "line%.html", "names-of-one")]:
+        Path(run.folder, folder).mkdir()
+        Path(run.folder, folder, page).symlink_to(f"../{name}")
+    Path(run.folder, "other").write_text(WORD)
+    Path(run.folder, "names-of-one").write_text("line\n")
+    kept = {name: Path(run.folder, name).read_bytes() for name in ("word", "line", "other", "names-of-one")}
+    for folder, games, lost in [
+        ("over-words", ["line"], "WORDS"),
+        ("over-game", ["line"], "GAME"),
+        ("over-game", ["--names", "names-of-one"], "GAME"),
+        ("over-other", ["line", "other"], "GAME"),
+        ("over-list", ["--names", "names-of-one"], "the FILE of --names"),
+    ]:
+        status, told, error = said(run, ["archive", "--pages", folder, "word", "word.gad", *games])
+        message = f"a page in FOLDER is the same file as {lost}, which would be lost"
+        run.expect(f"pages over {lost} in {folder}", status == 64 and told == b"" and message in error.decode())
+    run.row(["archive", "--pages", "over-game", "--names", "-", "word", "word.gad"], 4, f"line\t{legal}\tcannot write\t0\n", stdin="line\n")
+    run.expect("the inputs of pages are as they were", all(Path(run.folder, name).read_bytes() == data for name, data in kept.items()))
+    # A link that leads to no input is followed.
+    Path(run.folder, "over-other/line%.html").symlink_to("../elsewhere.html")
+    run.row(["archive", "--pages", "over-other", "word", "word.gad", "line"], 0, f"line\t{legal}\tline%.html\t0\n")
+    run.expect("the page behind a link", Path(run.folder, "elsewhere.html").read_bytes().startswith(b"<!DOCTYPE html>") and Path(run.folder, "over-other/line%.html").is_symlink())
 
 
 def indexed(run, lines, objects, whole):
-    """`index`: of the lines of runs, in both forms, the index that one run makes of them all."""
+    """`index`: of the lines of runs, in both forms, the index that one run makes of them all, but for what no line says."""
     for text in ("".join(lines), objects, "".join(lines[:3]) + "\n".join(objects.split("\n")[3:])):
         Path(run.folder, "lines").write_text(text)
         run.row(["index", "lines", "out"], 0, wrote=whole)
         run.row(["index", "-", "out"], 0, stdin=text, wrote=whole)
     plain = ["\t".join(line.split("\t")[:11]) + "\n" for line in lines]
-    run.row(["index", "-", "out"], 0, stdin="".join(plain))
+    for text in (["\t".join(line.split("\t")[:12]) + "\n" for line in lines], plain):
+        run.row(["index", "-", "out"], 0, stdin="".join(text), wrote=whole if text is not plain else None)
     rows = web.read(Path(run.folder, "out").read_bytes()).first("tbody").all("tr")
-    run.expect("an index without pages", [[it.text() for it in row.all("td")] for row in rows] == [[name, *cells] for name, _, _, cells in PAGED])
+    cells = {name: [it.removesuffix(": it is empty") for it in cells] for name, _, _, cells in PAGED}
+    run.expect("an index without pages", [[it.text() for it in row.all("td")] for row in rows] == [[name, *cells[name]] for name in IN_ORDER])
     run.expect("no links", not any(row.all("a") for row in rows))
     run.row(["index", "-", "out"], 0, stdin="")
     Path(run.folder, "out").write_bytes(b"as it was")
     for bad in ("line\n", "\n", lines[0].replace("legal", "lawful"), lines[0].replace("16", "x"), lines[0].replace("line%.html", "a\tb\tc\td"), lines[0][:-1], "{}\n",
                 objects.split("\n")[0].replace('"legal"', '"lawful"') + "\n", objects.split("\n")[0][:-1] + "\n"):
         run.row(["index", "-", "out"], 3, stdin=lines[1] + bad, error="referee: standard input line 2 is not a line of an archive", wrote=b"as it was")
+    for page in ("/line%.html", "../line%.html", "a/../../line%.html", "..//a.html"):
+        outside = lines[0].replace("line%.html", page)
+        run.row(["index", "-", "out"], 3, stdin=lines[1] + outside, error="referee: standard input line 2 names a page outside the folder of the index", wrote=b"as it was")
     run.row(["index", "nowhere", "out"], 4, error="referee: cannot open nowhere: no such file", wrote=b"as it was")
     run.row(["index", "folder", "out"], 4, error="referee: read failed: folder: is a folder", wrote=b"as it was")
     run.row(["index", "lines"], 64, error=None)
@@ -1152,16 +1263,16 @@ def refused_pages(run):
     Path(run.folder, "some/line%.html").mkdir(parents=True)
     Path(run.folder, "some/r1").write_text("")
     names, pages = ["line", "caf\u00e9", "r1/final.gcg"], ["cannot write", "caf\u00e9%.html", "cannot write"]
-    run.row(["archive", "--pages", "some", "word", "word.gad", *names], 4, "".join(f"{name}\t{legal}\t{page}\n" for name, page in zip(names, pages)))
+    run.row(["archive", "--pages", "some", "word", "word.gad", *names], 4, "".join(f"{name}\t{legal}\t{page}\t0\n" for name, page in zip(names, pages)))
     Path(run.folder, "none/index.html").mkdir(parents=True)
-    run.row(["archive", "--pages", "none", "word", "word.gad", "line"], 4, f"line\t{legal}\tline%.html\n", error="referee: write failed: none: is a folder")
+    run.row(["archive", "--pages", "none", "word", "word.gad", "line"], 4, f"line\t{legal}\tline%.html\t0\n", error="referee: write failed: none: is a folder")
 
 
 def archived_again(run):
     """`archive --skip`: the games that have no line yet; and `-0`, names that end in NUL."""
-    legal, other = "\tlegal\tunfinished\t-\t-\t1\tA\t16\t-\t-\t0", "\tno game\t-\t-\t-\t0\t-\t-\t-\t-\t0"
+    legal, other = "\tlegal\tunfinished\t-\t-\t1\tA\t16\t-\t-\t0\t0", "\tno game\t-\t-\t-\t0\t-\t-\t-\t-\t0\t0"
     names = ["line", "no\xffwhere", "tab\there", "two\nlines", "back\\slash", "nothing"]
-    shown = [("line", legal), ("no\ufffdwhere", "\tunread\t-\t-\tcannot open\t-\t-\t-\t-\t-\t-"), ("tab\\there", legal), ("two\\nlines", legal),
+    shown = [("line", legal), ("no\ufffdwhere", "\tunread\t-\t-\tcannot open\t-\t-\t-\t-\t-\t-\t-"), ("tab\\there", legal), ("two\\nlines", legal),
              ("back\\\\slash", legal), ("nothing", other)]
     lines, statuses = [f"{name}{text}\n" for name, text in shown], [0, 4, 0, 0, 0, 3]
     Path(run.folder, "names").write_bytes(b"\0".join(name.encode("latin-1") for name in names))
@@ -1291,6 +1402,7 @@ def audited(run):
 
 
 DEALT = "The rules allow every event, and a deal of the tiles gives the players every rack that is shown.\n"
+BLANKS_SHOWN = "Each word of every play that stands is in the word list.\nLine 1 shows 2 of 7 tiles.\nLine 2 shows 1 of 7 tiles.\n"
 STANDS = DEALT + "Each word of every play that stands is in the word list.\nEvery turn shows its rack.\n"
 HIDDEN = DEALT + "Each word of every play that stands is in the word list.\nNo turn shows its rack.\n"
 WORD_SUMS = "WORD\n  8E W 4\n  8F O 1\n  8G R 1\n  8H D 2, double word\n  sum 8 x 2 = 16\nscore of the play: 16\n"
@@ -1337,10 +1449,11 @@ def repairs_listed(run):
     run.row([*told, "-"], 0, "legal unfinished\n", stdin=WORD)
     for game in ("nothing", "page"):
         run.row([*told, game], 3, "no game\n")
+        run.row([*told, "--repaired", "out", game], 3, "no game\nnot written: there is nothing to repair\n", error=NO_EVENT[game])
     for words, out in [
         (["digit", "word.gad", "line"], "bad word list line 2: BadLetter\n"),
         (["at", "extra.gad", "line"], "bad lexicon: Extra A\n"),
-        (["word", "word.gad", "third"], "bad record line 3: ThirdPlayer\n"),
+        (["word", "word.gad", "third"], "bad record line 3: ThirdPlayer\nnot written: it is not a record\n"),
         (["--rules", "tiles.rules", "word", "word.gad", "line"], "bad rules line 1: Unknown\n"),
     ]:
         Path(run.folder, "out").write_bytes(b"as it was")
@@ -1351,9 +1464,11 @@ def repairs_listed(run):
     twice = ["word-at-ra", "word-at-ra.gad", "twice"]
     found = "illegal line 3: NotYourTurn\nline 3: it repeats the line before it and should not be there\n  4 of 4 numbers right\n"
     run.row(["repair", "--number", "1", *twice], 1, found + "  not in the list: DT\n")
-    run.row(["repair", "--number", "1", "--repaired", "out", *twice], 1, found + "  not in the list: DT\n", wrote=(WORD + at).encode())
+    first = "written: the sheet with the first repair\n"
+    run.row(["repair", "--number", "1", "--repaired", "out", *twice], 1, found + "  not in the list: DT\n" + first, wrote=(WORD + at).encode())
     Path(run.folder, "all").write_text("AT\nDT\nEAT\nOE\nRA\nWORD\n")
     run.row(["build", "all", "all.gad"], 0)
+    numbers_alone(run, at)
     eat = ">A: E 9F E.. +5 21\n"
     Path(run.folder, "passes").write_text(f"{WORD}{at}>A: - +0 16\n{eat}")
     passes = "illegal line 4: NotYourTurn\nline 3: it should not be there\n  6 of 6 numbers right\n"
@@ -1376,32 +1491,39 @@ def repairs_listed(run):
         run.row([*told, *words], 64, error=None)
 
 
+def numbers_alone(run, at):
+    """`repair` of a sheet on which only a score is wrong, for which no change of the play makes up: the sheet is written with the right one."""
+    Path(run.folder, "scored").write_text(WORD.replace("+16 16", "+18 18") + at)
+    run.row(["repair", "--repaired", "out", "all", "all.gad", "scored"], 1, None, wrote=(WORD + at).encode())
+
+
 def compared(run):
     """`compare`, by its statuses."""
     run.row(["build", "word", "word.gad"], 0)
     told = ["compare", "word", "word.gad"]
-    for game, out in (("line", "legal unfinished\n"), ("ends", "legal complete\n")):
+    unfinished, done = "legal unfinished\n", "written: the merged record\n"
+    for game, out in (("line", unfinished), ("ends", "legal complete\n")):
         run.row([*told, game, game], 0, out)
         run.row([*told, "-", game], 0, out, stdin=Path(run.folder, game).read_text())
     other = WORD.replace("8E", "8D")
     Path(run.folder, "other").write_text(other)
     merged = "#player1 A\n" + WORD.replace("DORWAAE", "AADEORW")
-    first = "line 1 | line 1: 8E WORD +16 16 | 8D WORD +16 16: the first; with the second, line 1 | line 1 is refused: MissesCentre\nlegal unfinished\n"
+    first = "line 1 | line 1: 8E WORD +16 16 | 8D WORD +16 16: the first; with the second, line 1 | line 1 is refused: MissesCentre\n" + unfinished
     run.row([*told, "line", "other"], 1, first)
-    run.row([*told, "--merged", "out", "line", "other"], 1, first, wrote=merged.encode())
-    run.row([*told, "--merged", "-", "line", "other"], 1, merged, error=first.removesuffix("\n"))
+    run.row([*told, "--merged", "out", "line", "other"], 1, first + done, wrote=merged.encode())
+    run.row([*told, "--merged", "-", "line", "other"], 1, merged, error=first + done.removesuffix("\n"))
     Path(run.folder, "others").write_text(WORD.replace("8E", "8F"))
-    both = "line 1 | line 1: 8E WORD +16 16 | 8F WORD +16 16: both stand\n1 other choice of the lines would stand as well\nlegal unfinished\n"
+    both = "line 1 | line 1: 8E WORD +16 16 | 8F WORD +16 16: both stand\n1 other choice of the lines would stand as well\n" + unfinished
     run.row([*told, "line", "others"], 1, both)
     Path(run.folder, "out").write_bytes(b"as it was")
     run.row([*told, "--merged", "out", "line", "others"], 1, both + "not written: another choice of the lines would stand as well\n", wrote=b"as it was")
     for name, place in (("left", "8C"), ("above", "7E"), ("aside", "7F")):
         Path(run.folder, name).write_text(WORD.replace("8E", place))
     refused = "{0}\nnone of 2 choices of the lines is known to be a game\nfirst goes furthest: line 1 | line 1 is refused: MissesCentre\n"
-    mended = refused.format("line 1 | line 1: 8D WORD +16 16 | 8C WORD +16 16") + "first is a game with one more change: line 1: WORD at 8E, not at 8D\nlegal unfinished\n"
-    run.row([*told, "--merged", "out", "other", "left"], 1, mended, wrote=merged.encode())
+    mended = refused.format("line 1 | line 1: 8D WORD +16 16 | 8C WORD +16 16") + "first is a game with one more change: line 1: WORD at 8E, not at 8D\n" + unfinished
+    run.row([*told, "--merged", "out", "other", "left"], 1, mended + done, wrote=merged.encode())
     rival = "another change would make a game as well\n"
-    either = refused.format("line 1 | line 1: 7E WORD +16 16 | 7F WORD +16 16") + f"first is a game with one more change: line 1: WORD at 8E, not at 7E\n{rival}legal unfinished\n"
+    either = refused.format("line 1 | line 1: 7E WORD +16 16 | 7F WORD +16 16") + f"first is a game with one more change: line 1: WORD at 8E, not at 7E\n{rival}{unfinished}"
     Path(run.folder, "out").write_bytes(b"as it was")
     run.row([*told, "--merged", "out", "above", "aside"], 1, f"{either}not written: {rival}", wrote=b"as it was")
     for words, out in [(["digit", "word.gad", "line", "line"], "bad word list line 2: BadLetter\n"), (["at", "extra.gad", "line", "line"], "bad lexicon: Extra A\n")]:
@@ -1467,7 +1589,8 @@ def explained(run):
     listed = ["explain", "word-at-ra", "word-at-ra.gad"]
     laid = f"legal unfinished\nline 2: >B: AT 9G AT +9 9\n{allowed}{AT_SUMS}" + picture_of(2, True, ROW_OF_WORD, AT_MARKED)
     run.row([*listed, "unlisted", "2"], 0, laid)
-    run.row([*listed, "unlisted"], 0, f"legal unfinished\n{DEALT}Line 2: B's play stands with DT, which is not in the word list.\nEvery turn shows its rack.\n")
+    part = "Line 2: B's play stands with DT, which is not in the word list.\nLine 2 shows 2 of 7 tiles.\nEvery other turn shows its rack.\n"
+    run.row([*listed, "unlisted"], 0, f"legal unfinished\n{DEALT}{part}")
     read = "X is played, but the rack AADEORW has none.\nWith W for X on 8E the play makes WORD, and scores 16, as is written.\n"
     told("misread", 1, f"illegal line 1: WrongScore 24\nline 1: {MISREAD}The play scores 24, but 16 is written.\n{read}{XORD_SUMS}" + picture_of(1, True, WORD_MARKED))
     blank = "With the W on 8E as a blank the play scores 8, as is written.\n"
@@ -1484,7 +1607,7 @@ def explained(run):
         (["digit", "word.gad", "line"], 3, "bad word list line 2: BadLetter\n"),
         (["at", "extra.gad", "line"], 3, "bad lexicon: Extra A\n"),
         (["--rules", "tiles.rules", "word", "word.gad", "line"], 3, "bad rules line 1: Unknown\n"),
-        (["--rules", "two-sets.rules", "at", "at.gad", "blanks"], 0, f"legal unfinished\n{STANDS}"),
+        (["--rules", "two-sets.rules", "at", "at.gad", "blanks"], 0, f"legal unfinished\n{DEALT}{BLANKS_SHOWN}"),
     ]:
         run.row(["explain", *words], status, out)
     run.row(["explain", "word", "word.gad", "-"], 0, f"legal unfinished\n{STANDS}", stdin=WORD)
@@ -1507,9 +1630,9 @@ def paged(run):
         run.expect(f"the banner of {game}", banner.first("h2").text() == verdict and banner.attributes["class"] == f"verdict {verdict.split()[0]}")
         run.expect(f"no likely repair on the page of {game}", not banner.all("p", "likely"))
     rows = {
-        "line": ["1", "A", "8E WORD", "+16", "16", "AADEORW", "best", ""],
-        "line-18": ["1", "A", "8E WORD fault", "+18", "18", "AADEORW", "best", "", "score 16 total 16"],
-        "line-17": ["1", "A", "8E WORD fault", "+16", "17", "AADEORW", "best", "", "total 16"],
+        "line": ["1", "A", "8E WORD", "+16", "16", "AADEORW", "8E WORD 16", "equal"],
+        "line-18": ["1", "A", "8E WORD fault", "+18", "18", "AADEORW", "8E WORD 16", "equal", "score 16 total 16"],
+        "line-17": ["1", "A", "8E WORD fault", "+16", "17", "AADEORW", "8E WORD 16", "equal", "total 16"],
     }
     for game, cells in rows.items():
         run.row(["page", "word", "word.gad", game, "out"], int(game != "line"), None)
@@ -1558,12 +1681,75 @@ def unwritten(run, out, command):
         run.row([command, "word", "word.gad", "line", "out"], 4, error="referee: write failed: standard output: no space left, error 28 of the system", stdout="/dev/full")
 
 
+BY_POINTS = [  # by the list AT: a record, how many points more the best play of its first line gives, the note, the cell of the page, and the sum for A
+    (">A: AADERTW 8E DRAW +16 16\n", -12, "best 8G AT 4; not in the list: DRAW", "", 0),
+    (">A: AADERTW 8E DRAW +16 16\n>A: AADERTW -- -16 0\n", 4, "best 8G AT 4, 4 more", "+4", 4),
+    (">A: AADERTW 8H AT +4 4\n", 0, "best 8G AT 4, equal", "equal", 0),
+    (">A: AADERTW - +0 0\n", 4, "best 8G AT 4, 4 more", "+4", 4),
+]
+
+
+def counted_points(run):
+    """How many points more the best play would have given: one number in `judge --json`, `annotate` and the page."""
+    run.row(["build", "at", "at.gad"], 0)
+    for text, more, note, cell, left in BY_POINTS:
+        Path(run.folder, "points").write_text(text)
+        told = json.loads(said(run, ["judge", "--json", "at", "at.gad", "points"])[1])
+        run.expect(f"the points of {text!r}", told["events"][0]["best"]["more"] == more and told["players"][0]["left"] == left)
+        run.expect(f"the note of {text!r}", said(run, ["annotate", "at", "at.gad", "points"])[1].decode().split("\n")[1] == f"#note {note}")
+        said(run, ["page", "at", "at.gad", "points", "points.html"])
+        page = web.read(Path(run.folder, "points.html").read_bytes())
+        row = [it.text() for it in page.first("table", "sheet").first("tbody").first("tr").children()]
+        run.expect(f"the page of {text!r}", row[6:8] == ["8G AT 4", cell] and page.first("p", "sums").text() == f"The best plays would have given more: A {left}")
+
+
+def seen(run, words, stream):
+    """The status of a command line, and what a terminal gets that is its standard output or its standard error."""
+    terminal, its = pty.openpty()
+    tty.setraw(its)
+    streams = {"stdout": subprocess.DEVNULL, "stderr": subprocess.DEVNULL} | {stream: its}
+    ran = subprocess.Popen([run.program, *words], cwd=run.folder, stdin=subprocess.DEVNULL, **streams)
+    os.close(its)
+    told = b""
+    try:
+        while part := os.read(terminal, 1 << 16):
+            told += part
+    except OSError:
+        pass
+    os.close(terminal)
+    return ran.wait(), told
+
+
+def on_a_terminal(run):
+    """Control characters of a record are shown on a terminal; in a file and through a pipe they are as they are."""
+    run.row(["build", "word", "word.gad"], 0)
+    hostile = b"A\x1b[1A\x1b[2K\x07\x7f\xc2\x9b31m\xc3\x9b\xc2\xa7"
+    shown = "A^[[1A^[[2K^G^?^[[31m\u00db\u00a7".encode()
+    Path(run.folder, "hostile").write_bytes(b">" + hostile + b": DORWAAE 8E WORD +16 16\n")
+    judge = b"legal unfinished\n1 %s 8E WORD +16 16 best 8E WORD 16\n"
+    run.expect("judge on a terminal", seen(run, ["judge", "word", "word.gad", "hostile"], "stdout") == (0, judge % shown))
+    run.expect("judge through a pipe", said(run, ["judge", "word", "word.gad", "hostile"])[:2] == (0, judge % hostile))
+    tidied = b"#player1 %s\n>%s: AADEORW 8E WORD +16 16\n"
+    run.expect("tidy on a terminal", seen(run, ["tidy", "hostile"], "stdout") == (0, tidied % (shown, shown)))
+    run.expect("tidy through a pipe", said(run, ["tidy", "hostile"])[:2] == (0, tidied % (hostile, hostile)))
+    noted = b">%s: DORWAAE 8E WORD +16 16\n#note best 8E WORD 16, equal\n"
+    run.expect("annotate on a terminal", seen(run, ["annotate", "word", "word.gad", "hostile", "-"], "stdout") == (0, noted % shown))
+    Path(run.folder, "returns").write_bytes(b">A:\tDORWAAE 8E WORD +16 16\r\n")
+    returns = b">A:\tDORWAAE 8E WORD +16 16%s\n#note best 8E WORD 16, equal%s\n"
+    run.expect("a tab and a CR", seen(run, ["annotate", "word", "word.gad", "returns", "-"], "stdout") == (0, returns % (b"^M", b"^M")))
+    lost = b"referee: cannot open no%swhere: no such file\n"
+    run.expect("standard error that is a terminal", seen(run, ["judge", "word", "word.gad", "no\x1b[2Jwhere"], "stderr") == (4, lost % b"^[[2J"))
+    run.expect("standard error that is a pipe", said(run, ["judge", "word", "word.gad", "no\x1b[2Jwhere"])[2] == lost % b"\x1b[2J")
+    status, told = seen(run, ["--help"], "stdout")
+    run.expect("help on a terminal", (status, told) == said(run, ["--help"])[:2])
+
+
 def annotated(run):
     """`annotate`: the record with notes, in the file that is named or on standard output."""
     run.row(["build", "word", "word.gad"], 0)
     run.row(["build", "word-at-ra", "word-at-ra.gad"], 0)
     by_word, listed = ["annotate", "word", "word.gad"], ["annotate", "word-at-ra", "word-at-ra.gad"]
-    best = f"{WORD}#note best 8E WORD 16\n"
+    best = f"{WORD}#note best 8E WORD 16, equal\n"
     run.row([*by_word, "line", "out"], 0, "legal unfinished\n", wrote=best.encode())
     for words in ([*by_word, "line"], [*by_word, "line", "-"], [*by_word, "-"]):
         run.row(words, 0, best, error="legal unfinished", stdin=WORD)
@@ -1696,7 +1882,7 @@ def hinted(run):
     for named, told in [
         ("", "the rack has no tile, and a rack has 1 to 7"),
         ("A1", f"'1' in the rack is no tile: {rack}"),
-        ("at", f"'a' in the rack is no tile: {rack}"),
+        ("a1", f"'1' in the rack is no tile: {rack}"),
         ("\u00c4", f"'\u00c4' in the rack is no tile: {rack}"),
         ("AAAAAAAA", "the rack has 8 tiles, and a rack has 1 to 7"),
     ]:
@@ -1742,6 +1928,14 @@ def hinted(run):
     run.row(["check", "-", "it-at.gad"], 3, "bad lexicon: Extra I\n", error=other.format("it-at.gad", "standard input"), stdin="AT\n")
 
 
+def misordered(run):
+    """Files in the wrong order are named as what they are."""
+    order = "the files are WORDS, LEXICON and GAME, in this order"
+    run.row(["judge", "line", "at.gad", "at"], 3, "bad word list line 1: BadLetter\n", error=f"referee: line is a game record and no word list: {order}")
+    run.row(["judge", "by-hand", "at.gad", "at"], 3, "bad word list line 1: BadLetter\n", error=f"referee: by-hand is a game record and no word list: {order}")
+    run.row(["judge", "at", "at.gad", "it-at"], 0, "legal unfinished\n", error=f"referee: it-at has no event: it is a word list, and {order}")
+
+
 def refusal(verdict, line=None, fault=None, **more):
     """The object of an answer that is no report."""
     return json.dumps({"verdict": verdict, "line": line, "fault": fault} | more, separators=(",", ":")) + "\n"
@@ -1763,11 +1957,11 @@ def in_json(run):
     head = '{"verdict":"legal","line":null,"fault":null,"ending":"unfinished","players":'
     both = f'[{player % (chr(34) + "A" + chr(34), 0)},{player % ("null", 0)}]'
     for more in ([], ["--settle"]):
-        run.row(["judge", "--json", *more, "word", "word.gad", "line"], 0, f'{head}{both},"events":[{legal}{best}]}}\n')
+        run.row(["judge", "--json", *more, "word", "word.gad", "line"], 0, f'{head}{both},"events":[{legal}{best}],"unread_lines":[]}}\n')
     head = '{"verdict":"illegal","line":1,"fault":{"name":"WrongScore","expected":16},"ending":null,"players":'
     both = f'[{player % (chr(34) + "A" + chr(34), "null")},{player % ("null", "null")}]'
     wrong = f'{start}"word":null,"tiles":null,"number":null,"score":18,"total":18,"turn":null,"best":null,"unlisted":null}}'
-    run.row(["judge", "--json", "word", "word.gad", "line-18"], 1, f'{head}{both},"events":[{wrong}]}}\n')
+    run.row(["judge", "--json", "word", "word.gad", "line-18"], 1, f'{head}{both},"events":[{wrong}],"unread_lines":[]}}\n')
 
     def told(words):
         return json.loads(subprocess.run([run.program, *words], cwd=run.folder, capture_output=True, check=False).stdout)
@@ -1788,7 +1982,7 @@ def in_json(run):
         run.row(["check", "--json", "at", "at.gad"], 4, error="referee: write failed: standard output: no space left, error 28 of the system", stdout="/dev/full")
     run.row(["check", "--json", "--json", "at", "at.gad"], 64, error=None)
     audit = ["audit", "--json", "word", "word.gad"]
-    keys = '{"verdict":"%s","line":%s,"fault":%s,"ending":%s,"players":[{"nick":"A","name":null},{"nick":null,"name":null}],"wrong":[%s]}\n'
+    keys = '{"verdict":"%s","line":%s,"fault":%s,"ending":%s,"players":[{"nick":"A","name":null},{"nick":null,"name":null}],"wrong":[%s],"unread_lines":[]}\n'
     event = '"line":1,"player":1,"nick":"A","kind":"play","place":"8E","direction":"across","text":"WORD"'
     score, total = f'{{"wrong":"score",{event},"written":18,"sum":null,"right":16}}', '"kind":null,"place":null,"direction":null,"text":null'
     last = f'{{"wrong":"last total","line":null,"player":1,"nick":"A",{total},"written":%d,"sum":null,"right":16}}'
@@ -1800,7 +1994,7 @@ def in_json(run):
     run.expect("a sum before the line at which the correction stops", [game["wrong"][0][key] for key in ("written", "sum", "right")] == [15, 16, 16])
     run.expect("a sum on that line", [game["wrong"][1][key] for key in ("line", "kind", "written", "sum", "right")] == [2, "time", 4, 0, None])
     run.expect("no last total without a correction", [it["wrong"] for it in game["wrong"]] == ["sum", "sum"] and game["line"] == 2)
-    run.row([*audit, "nothing"], 3, '{"verdict":"no game","line":null,"fault":null,"ending":null,"players":[%s,%s],"wrong":[]}\n' % (('{"nick":null,"name":null}',) * 2))
+    run.row([*audit, "nothing"], 3, '{"verdict":"no game","line":null,"fault":null,"ending":null,"players":[%s,%s],"wrong":[],"unread_lines":[]}\n' % (('{"nick":null,"name":null}',) * 2))
     run.row([*audit, "third"], 3, refusal("bad record", 3, {"name": "ThirdPlayer"}))
     run.row([*audit, "nowhere"], 4, refusal("cannot open", file="nowhere"), error="referee: cannot open nowhere: no such file")
     run.row([*audit, "--corrected", "out", "line"], 64, error=None)
@@ -1809,6 +2003,7 @@ def in_json(run):
     plays = ",".join(play % it for it in (("8G", "across", "At"), ("8H", "across", "At"), ("H7", "down", "At"), ("H8", "down", "At")))
     both = '{"verdict":"ok","line":null,"fault":null,"rack":"A?","plays":[%s]}\n'
     run.row([*top, *at, "nothing", "?A"], 0, both % plays)
+    run.row([*top, *at, "nothing", "a?"], 0, both % plays)
     run.row([*top, "--number", "1", *at, "nothing", "?A"], 0, both % (play % ("8G", "across", "At")))
     run.row([*top, *at, "nothing", "ZZ"], 0, '{"verdict":"ok","line":null,"fault":null,"rack":"ZZ","plays":[]}\n')
     run.row([*top, *at, "nothing", "A1"], 3, refusal("bad rack"))
@@ -1818,7 +2013,7 @@ def in_json(run):
     run.row([*top, "digit", "folder", "line", "A"], 3, refusal("bad word list", 2, {"name": "BadLetter"}))
     run.row([*top, *at, "third", "A"], 3, refusal("bad record", 3, {"name": "ThirdPlayer"}))
     board = told(["board", "--json", "line"])
-    run.expect("the keys of a board", list(board) == ["verdict", "line", "fault", "before", "rows", "players", "rack", "off_board"])
+    run.expect("the keys of a board", list(board) == ["verdict", "line", "fault", "before", "rows", "players", "rack", "off_board", "unread_lines"])
     run.expect("a row of a board", board["rows"][7] == "=..'WORD...'..=" and len(board["rows"]) == 15)
     run.expect("the tiles that are not on the board", board["off_board"]["number"] == 96 and board["off_board"]["kinds"][3] == {"tile": "D", "number": 3})
     run.expect("the totals of a board", [player["total"] for player in board["players"]] == [16, 0])
@@ -1832,13 +2027,85 @@ def in_json(run):
     explained_in_json(run, told)
 
 
+def lines_unread(run):
+    """Lines that are not read although they look like events are named, and so is each line that begins like an event and is none."""
+    run.row(["build", "word", "word.gad"], 0)
+    pair = ["word", "word.gad"]
+    report = "legal unfinished\n1 A 8E WORD +16 16 best 8E WORD 16\n"
+    one = "referee: unread: line 2 is not read: it has no > in front"
+    kinds = "\n".join(f"referee: unread-kinds: line {line} is not read: {why}" for line, (_, why) in UNREAD.items())
+    many = [f"referee: unread-many: line {line} is not read: it has no > in front" for line in range(2, 12)]
+    many = "\n".join([*many, "referee: unread-many: more lines that are not read: 2"])
+    for game, error in (("unread", one), ("unread-kinds", kinds), ("unread-many", many)):
+        for more in ([], ["--settle"]):
+            run.row(["judge", *more, *pair, game], 0, report, error=error)
+        run.row(["tidy", game], 0, "#player1 A\n>A: AADEORW 8E WORD +16 16\n", error=error)
+        run.row(["board", game], 0, None, error=error)
+        run.row(["top", *pair, game, "A"], 0, None, error=error)
+        run.row(["audit", *pair, game], 0, "legal unfinished\n", error=error)
+        run.row(["repair", *pair, game], 0, "legal unfinished\n", error=error)
+        run.row(["page", *pair, game, "out"], 0, "legal unfinished\n", error=error)
+        run.row(["annotate", *pair, game, "out"], 0, "legal unfinished\n", error=error)
+        for command in ("judge", "audit", "explain", "repair"):
+            run.row([command, "--json", *pair, game], 0, None, error=error)
+        run.row(["board", "--json", game], 0, None, error=error)
+        run.row(["top", "--json", *pair, game, "A"], 0, None, error=error)
+        run.row(["archive", *pair, game], 0, None, error="")
+    run.row(["compare", *pair, "unread-kinds", "unread"], 0, None, error=f"{one}\n{kinds}")
+    run.row(["explain", *pair, "unread"], 0, f"legal unfinished\nLine 2 is not read: it has no > in front.\n{STANDS}", error=one)
+    told = "".join(f"Line {line} is not read: {why}.\n" for line, (_, why) in UNREAD.items())
+    run.row(["explain", *pair, "unread-kinds"], 0, f"legal unfinished\n{told}{STANDS}", error=kinds)
+    told = "".join(f"Line {line} is not read: it has no > in front.\n" for line in range(2, 12)) + "2 more lines are not read.\n"
+    run.row(["explain", *pair, "unread-many"], 0, f"legal unfinished\n{told}{STANDS}", error=many)
+    alone = "referee: unread-alone has no event: no line begins with >\nreferee: unread-alone: line 1 is not read: it has no > in front"
+    run.row(["judge", *pair, "unread-alone"], 0, "legal unfinished\n", error=alone)
+    run.row(["explain", *pair, "unread-alone"], 3, "no game\n", error=alone)
+    objects(run, pair)
+    faulty(run, pair)
+
+
+def objects(run, pair):
+    """The objects and the lines of an archive have the lines that are not read."""
+    wanted = [{"line": line, "why": why} for line, (why, _) in UNREAD.items()]
+    for command in (["judge", "--json", *pair], ["audit", "--json", *pair], ["explain", "--json", *pair], ["repair", "--json", *pair], ["board", "--json"]):
+        ran = subprocess.run([run.program, *command, "unread-kinds"], cwd=run.folder, capture_output=True, check=False)
+        told = json.loads(ran.stdout)
+        run.expect(f"the lines that {command[0]} does not read", list(told)[-1] == "unread_lines" and told["unread_lines"] == wanted)
+    run.row(["explain", "--json", *pair, "unread-alone"], 3, refusal("no game", unread_lines=[{"line": 1, "why": "no >"}]), error=None)
+    line = "\t".join(told_of("unread-kinds", f"legal unfinished - - 1 A 16 - - 0 {len(UNREAD)}"))
+    run.row(["archive", *pair, "unread-kinds"], 0, f"{line}\n")
+    ran = subprocess.run([run.program, "archive", "--json", *pair, "unread-kinds"], cwd=run.folder, capture_output=True, check=False)
+    run.expect("how many lines an archive does not read", list(json.loads(ran.stdout).items())[-1] == ("unread_lines", len(UNREAD)))
+
+
+def faulty(run, pair):
+    """Each line that begins with > and is no event is named."""
+    first = "The score +x is not a number of 1 to 6 digits, with or without a sign."
+    code = "8H is not an event: an event is a play with its position, word, score and total, or one of the codes -, --, -TILES, -NUMBER, (challenge), (time) and (TILES)."
+    bad = "bad record line 1: Number\n"
+    word, last = "The word of the play is missing.", "AEINRST is not an event" + code.removeprefix("8H is not an event")
+    lacks = "The score or the total is missing: an event ends with both."
+    error = f"referee: bad-twice line 1: {first}\nreferee: bad-twice line 2: {code} {word}\nreferee: bad-twice line 5: {last} {lacks}"
+    unread = "referee: bad-twice: line 3 is not read: it has no > in front"
+    for command in ("judge", "audit", "repair"):
+        run.row([command, *pair, "bad-twice"], 3, bad, error=f"{error}\n{unread}")
+    told = f"{bad}line 1: >A: 8E WORD +x 16\n{first}\nline 2: >B: 8H +9 9\n{code}\n{word}\nline 5: >C: AEINRST - 0\n{last}\n{lacks}\n"
+    run.row(["explain", *pair, "bad-twice"], 3, f"{told}Line 3 is not read: it has no > in front.\n", error=unread)
+    marks = ">A is a third nickname: the players are A and B."
+    run.row(["judge", *pair, "two-marks"], 3, "bad record line 3: ThirdPlayer\n", error=f"referee: two-marks line 3: {marks} The line begins with more than one >.")
+    run.row(["explain", *pair, "time-rack"], 1, None, error="")
+    ran = subprocess.run([run.program, "explain", *pair, "time-rack"], cwd=run.folder, capture_output=True, check=False)
+    sentence = b"(TIME) on line 2 is a last rack with the tiles T, I, M and E: a penalty is written (time).\n"
+    run.expect("a last rack that is a penalty", ran.stdout.split(b"\n", 2)[2].startswith(sentence))
+
+
 WHOLE = [{"name": "Legal"}, {"name": "Unlisted", "plays": []}, {"name": "RacksHidden", "number": 0, "limit": 1, "on_lines": []}]
 
 
 def explained_in_json(run, told):
     """`explain --json`: facts, words and the board as values."""
     said = told(["explain", "--json", "word", "word.gad", "line-18"])
-    keys = ["verdict", "line", "fault", "ending", "explained", "text", "facts", "play", "board", "unknown_since", "likely"]
+    keys = ["verdict", "line", "fault", "ending", "explained", "text", "facts", "play", "board", "unknown_since", "likely", "unread_lines"]
     run.expect("the keys of an explanation", list(said) == keys)
     run.expect("what is explained", [said["line"], said["explained"], said["text"]] == [1, 1, ">A: DORWAAE 8E WORD +18 18"])
     run.expect("a wrong score as a fact", said["facts"] == [{"name": "PlayScore", "right": 16, "written": 18}])
@@ -1866,7 +2133,7 @@ def explained_in_json(run, told):
     run.expect("a pass too many", [said[key] for key in ("at", "line", "slip", "lines", "weight", "cost")] == ["on", 2, "pass too many", [], 2, 2])
     run.expect("no likely repair of a line", told(["explain", "--json", "word", "word.gad", "nine", "1"])["likely"] is None)
     run.row(["explain", "--json", "word", "word.gad", "line", "9"], 3, refusal("bad line"))
-    run.row(["explain", "--json", "word", "word.gad", "nothing"], 3, refusal("no game"), error="")
+    run.row(["explain", "--json", "word", "word.gad", "nothing"], 3, refusal("no game", unread_lines=[]), error="")
     run.row(["explain", "--json", "word", "word.gad", "third"], 3, refusal("bad record", 3, {"name": "ThirdPlayer"}))
     run.row(["explain", "--json", "digit", "folder", "line"], 3, refusal("bad word list", 2, {"name": "BadLetter"}))
     run.row(["explain", "--json", "word", "word.gad", "nowhere"], 4, refusal("cannot open", file="nowhere"), error="referee: cannot open nowhere: no such file")
@@ -1910,7 +2177,7 @@ def main():
     with tempfile.TemporaryDirectory() as folder:
         files(folder)
         run = Runner(os.path.abspath(sys.argv[1]), folder)
-        for part in (judged, settled, built_and_checked, converted, topped, topped_before, ruled, tidied, boarded, widest, from_standard_input, fielded, skipped, words_ruled, archived, served, audited, repairs_listed, compared, explained, explain_rows, paged, annotated, in_json, put_out, overwritten, hinted, broken, helped, misused):
+        for part in (judged, settled, built_and_checked, converted, topped, topped_before, ruled, tidied, boarded, widest, from_standard_input, fielded, skipped, words_ruled, archived, served, audited, repairs_listed, compared, explained, explain_rows, paged, annotated, counted_points, on_a_terminal, in_json, lines_unread, put_out, overwritten, hinted, misordered, broken, helped, misused):
             part(run)
         if sys.argv[2:] == ["large"]:
             converted_large(run)

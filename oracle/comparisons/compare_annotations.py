@@ -13,8 +13,9 @@ from answers import lines_of, status_of, words_of
 from comparing import Differences, compare_cases
 from dealing import likely, line
 from deals import event_of, settled_verdicts
-from mistakes import some_inputs
+from mistakes import some_inputs, with_unread_lines
 from records import Fault, read
+from unread import unread_advice
 
 
 def dressed(game):
@@ -35,7 +36,7 @@ class Annotations(Differences):
 
     def case(self):
         rules, events, words, _, text = some_inputs(self.put)
-        game = self.put("game", dressed("".join(map(line, events)).encode()))
+        game = self.put("game", dressed(with_unread_lines("".join(map(line, events)).encode())))
         by = ["--rules", "rules"] if text is not None else []
         (self.folder / "out").unlink(missing_ok=True)
         number = random.choice([1, 1, 2, 3, 12])
@@ -59,7 +60,7 @@ class Annotations(Differences):
         self.seen[verdict.split(": ")[-1].split(" ")[0]] += 1
         if told is None or verdict not in verdicts:
             return self.expect(False, ran, verdicts[:3], game)
-        self.expect(ran.returncode == status_of(ran.stdout) and not ran.stderr, ran)
+        self.expect(ran.returncode == status_of(ran.stdout) and ran.stderr == unread_advice("game", game), ran)
         notes = notes_of(game, players, events, listed, rules, verdict, number, told.decode("latin-1"))
         self.seen["notes"] += len([it for it in notes if it])
         return self.expect(told == with_notes(game, notes), told, with_notes(game, notes))

@@ -12,6 +12,7 @@ from dealing import Dealer, likely, line, spoiled
 from fuzz import TEXT_DAMAGES, damaged
 from lexicons import GAD2, build, convert
 from making import Maker
+from mistakes import with_unread_lines
 from rules import ENGLISH
 from rules_texts import text_of
 from ruling import random_rules
@@ -46,7 +47,7 @@ def other_games(rules):
     game = text_from(maker.game())
     listed = maker.listed
     if likely(0.4):
-        game = damaged(game, TEXT_DAMAGES, 2)
+        game = with_unread_lines(damaged(game, TEXT_DAMAGES, 2))
     yield game, listed, maker.phonies, False
 
 

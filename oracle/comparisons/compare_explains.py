@@ -8,9 +8,9 @@ import random
 
 from advice import advice
 from answers import explained, status_of
-from comparing import Differences, compare_cases
+from comparing import Differences, compare_cases, suggestion
 from dealing import likely, line
-from mistakes import some_inputs
+from mistakes import some_inputs, with_unread_lines
 
 choose = random.choice
 
@@ -21,7 +21,7 @@ class Explaining(Differences):
     def case(self):
         _, events, words, lexicon, text = some_inputs(self.put)
         remark = "" if likely(0.7) else "#note\n"
-        game = self.put("game", "".join(choose(["", "", remark]) + line(it) for it in events).encode())
+        game = self.put("game", with_unread_lines("".join(choose(["", "", remark]) + line(it) for it in events).encode()))
         for asked in (None, random.randint(0, len(events) + 2)):
             self.compare(words, lexicon, game, asked, text)
 
@@ -29,8 +29,7 @@ class Explaining(Differences):
         by = ["--rules", "rules"] if text is not None else []
         named = [] if asked is None else [str(asked)]
         ran = self.run("explain", *by, "words", "lexicon", "game", *named)
-        said, likely, _ = ran.stdout.partition(b"\nLikely: ")
-        said += b"\n" if likely else b""
+        said, likely, _ = suggestion(ran.stdout)
         self.seen["with a likely repair"] += bool(likely)
         self.expect(not likely or asked is None and said.startswith(b"illegal "), "a likely repair of line", asked, said.decode("latin-1"))
         first = said.split(b"\n")[0]

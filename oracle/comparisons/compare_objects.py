@@ -12,7 +12,7 @@ from comparing import Differences, compare_cases
 from dealing import likely, line
 from explained_objects import without_likely
 from making import random_rack
-from mistakes import some_inputs
+from mistakes import some_inputs, with_unread_lines
 from objects import audited_objects, boarded_object, checked_object, explained_objects, judged_objects, topped_object
 from rules import ENGLISH
 
@@ -31,7 +31,7 @@ class Objects(Differences):
 
     def case(self):
         _, events, words, lexicon, text = some_inputs(self.put)
-        game = self.put("game", "".join(map(line, events)).encode())
+        game = self.put("game", with_unread_lines("".join(map(line, events)).encode()))
         if random.random() < 0.1:
             game = self.put("game", game[: random.randrange(len(game) + 1)])
         by, pair = (["--rules", "rules"] if text is not None else []), ["words", "lexicon"]
@@ -60,6 +60,8 @@ class Objects(Differences):
             self.seen[f"wrong: {number['wrong']}"] += 1
         for fact in told.get("facts") or []:
             self.seen[f"fact: {fact['name']}"] += 1
+        for unread in told.get("unread_lines") or []:
+            self.seen[f"not read: {unread['why']}"] += 1
         for event in told.get("events") or []:
             self.seen[f"event: {event['kind']}"] += 1
             self.seen[f"turn: {event['turn']}"] += 1

@@ -16,8 +16,9 @@ from comparing import Differences, compare_cases
 from dealing import likely, line
 from deals import event_of, settled_verdicts
 from game_pages import differences, expected
-from mistakes import some_inputs
+from mistakes import some_inputs, with_unread_lines
 from records import Fault, read
+from unread import unread_advice
 
 choose = random.choice
 NAMES = [b"A", b"<b>", b"</td>", b"&amp;", b"\"'", b"x\xff\xfe", b"<script>alert(1)</script>", b"&#39;", "Zoë".encode(), b"-->", b"]]>"]
@@ -60,6 +61,7 @@ class Pages(Differences):
         game = "".join(map(line, events)).encode()
         names = random.sample([it for it in NAMES if b":" not in it and b" " not in it], 2)
         game = worded(game) if likely(0.5) else game
+        game = with_unread_lines(game)
         game = self.put("game", named(game, *names) if likely(0.7) else game)
         self.compare(words, game, text, rules)
 
@@ -85,7 +87,7 @@ class Pages(Differences):
         verdicts = [audits.on_line(verdict, lines) for verdict in settled_verdicts(events, listed, rules)]
         verdict = ran.stdout.decode("latin-1").removesuffix("\n")
         self.seen[verdict.split(": ")[-1].split(" ")[0]] += 1
-        self.expect(verdict in verdicts and ran.returncode == status_of(ran.stdout) and not ran.stderr, ran, verdicts[:3], game)
+        self.expect(verdict in verdicts and ran.returncode == status_of(ran.stdout) and ran.stderr == unread_advice("game", game), ran, verdicts[:3], game)
         if page is None or verdict not in verdicts:
             return self.expect(False, "no page", ran)
         self.expect(len(events) > 30 or len(page) < 150_000, len(page), "bytes")

@@ -21,8 +21,8 @@ from lexicons import build
 from pairs import pairs
 from repair_rows import LINES, NONE, PHONIES, ROWS, TWO, puts
 from repair_figures import SLIPS, STYLES, TURNS, some_sheet, with_two_slips
-from repair_texts import likely_repair, likely_text, pairs_text, repair_text
-from repairs import NOTHING, WRONG_NUMBER, Front, repairs
+from repair_texts import amount_repair, choice, likely_repair, pairs_text, repair_text, suggested_text, with_numbers
+from repairs import NOTHING, Front, repairs
 from rules import ENGLISH
 from rules_texts import text_of
 
@@ -136,14 +136,18 @@ def known_pairs(differences, rules, listed, events):
 
 
 def likely(differences, events, listed, text, found, two):
-    """Compares how the explanation of an illegal record ends: with its likely repair, or without one."""
+    """Compares how the explanation of an illegal record ends: with its likely repair, with a bonus or a penalty if a total is wrong, or with neither."""
     names = names_in(text)
     said = differences.run("explain", "words", "lexicon", "game").stdout.decode()
     told = said[said.index("\nLikely: ") + 1 :] if "\nLikely: " in said else ""
     repair = likely_repair(found, two, events, listed)
-    wanted = likely_text(repair, events, names) if repair else ""
+    wanted = suggested_text("Likely", repair, events, names) if repair else ""
     differences.seen["likely repairs"] += bool(told)
     differences.expect(told == wanted, text, f"explained {told}", f"second judge {wanted}")
+    other = said[said.index("\nOr: ") + 1 :] if "\nOr: " in said else ""
+    amount = None if repair or ": WrongTotal " not in said.split("\n")[0] else amount_repair(found, events, listed)
+    differences.seen["bonuses and penalties"] += bool(other)
+    differences.expect(other == (suggested_text("Or", amount, events, names) if amount else ""), text, f"explained {other}", amount)
     likely_object(differences, text, told)
     likely_page(differences, text, told, repair if repair and is_of_play(repair.change, events) else None)
 
@@ -186,21 +190,22 @@ def pair_texts(differences, text, name, found, events, nicks):
     differences.expect(told == wanted, name, text, told, "second judge", wanted)
 
 
-def is_clear(found, two):
-    """Whether the first repair is ahead of the second by a number at the least, no two changes cost less, and nothing is left open."""
-    return bool(found) and not two and all(it.dealt for it in found) and all(found[0].cost + WRONG_NUMBER <= it.cost for it in found[1:2])
-
-
 def repaired(differences, listed, text, found):
-    """Compares the repaired sheet with the right events of the first repair, each line of the file but those of events as it was."""
+    """Compares the sheet that `--repaired` writes with the events of the first repair, or with the right numbers, each line of the file but those of
+    events as it was."""
     (differences.folder / "out").unlink(missing_ok=True)
     noted = "#title a game\n" + text.replace("\n", "\r\n#note as it was\n")
     differences.put("game", noted.encode())
     done = differences.run("repair", "--repaired", "out", "words", "lexicon", "game")
-    two, known = pairs(events_of(text), listed)
+    events = events_of(text)
+    two, known = pairs(events, listed)
     if not known:
         return
-    wanted = "".join(map(line_of, found[0].right())) if is_clear(found, two) else None
+    alone = with_numbers(events, listed)
+    chosen = {"repair": found[0] if found else None, "numbers": alone}.get(choice(found, two, alone, events))
+    wanted = "".join(map(line_of, chosen.right())) if chosen else None
+    said = done.stdout.decode().rpartition("\nwritten: ")[2] if chosen else ""
+    differences.expect(said == ("" if not chosen else "the sheet with its right numbers\n" if chosen is alone else "the sheet with the first repair\n"), text, said)
     there = (differences.folder / "out").exists()
     made = (differences.folder / "out").read_bytes().decode() if there else ""
     lines = [line.rstrip("\r") + "\n" for line in made.split("\n") if line.startswith(">")]
@@ -236,8 +241,7 @@ def case(differences, number):
         told, wanted = list(all_told(answer)), list(expected(found))
         last = min((max(them)[0] for them in (told, wanted) if them), default=0)
         few = [sorted({it for it in them if it[0] < last}) for them in (told, wanted)]
-        if found:
-            repaired(differences, listed, text, found)
+        repaired(differences, listed, text, found)
         differences.expect(few[0] == few[1], name, text, f"program {few[0][:5]}", f"second judge {few[1][:5]}")
 
 

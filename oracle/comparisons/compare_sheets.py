@@ -62,7 +62,8 @@ def itself(differences, events, listed):
     verdict = decide(events, listed)[0]
     if not verdict.startswith("legal"):
         return
-    good = done.returncode == 0 and done.stdout.decode().strip() == verdict.strip() and merged == record_of(events)
+    wanted = verdict.strip() + "\nwritten: the merged record\n"
+    good = done.returncode == 0 and done.stdout.decode() == wanted and merged == record_of(events)
     differences.expect(good, record_of(events), done.stdout.decode(), f"status {done.returncode}", merged)
 
 
@@ -82,6 +83,7 @@ def case(differences, number):
     if merged is None:
         differences.expect("not written: " in told, *shown, told)
         return
+    differences.expect(told.endswith("\nwritten: the merged record\n"), *shown, told)
     differences.seen["merged"] += 1
     made = events_of(merged)
     verdict = decide(made, listed)[0]

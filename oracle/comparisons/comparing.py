@@ -39,6 +39,15 @@ class Differences:
         sys.exit(self.differences > 0)
 
 
+def suggestion(printed):
+    """What `explain` prints up to the likely repair or to a bonus or a penalty, the word before that, and what follows."""
+    for word in (b"Likely: ", b"Or: "):
+        said, found, rest = printed.partition(b"\n" + word)
+        if found:
+            return said + b"\n", word, rest
+    return printed, b"", b""
+
+
 def compared(make, compare):
     """What `make` made of the program that the command line names and a folder for its inputs, after `compare(made, cases)` with the number
     of cases there and from its seed on; and that number."""

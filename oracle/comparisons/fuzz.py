@@ -16,8 +16,10 @@ from pathlib import Path
 import web
 from annotations import annotated
 from answers import NO_GAME, audit_status, audited, boarded, built, checked, converted, error_of, explained, first_fields, judged, settled, status_of, topped, words_of
+from comparing import suggestion
 from dealing import Dealer, likely, line, words_in_reach
 from lexicons import GAD2, build, convert
+from mistakes import with_unread_line
 from records import tidy
 from rules import ENGLISH
 from ruling import another_text, damaged_text, random_rules
@@ -75,7 +77,7 @@ def with_word(data):
     return data[:at] + (choose([word, word, random.getrandbits(32)]) % 2**32).to_bytes(4, "little") + data[at + 4 :]
 
 
-TEXT_DAMAGES = [with_bit, with_part, with_part, cut, with_lines_moved, with_token, with_token]
+TEXT_DAMAGES = [with_bit, with_part, with_part, cut, with_lines_moved, with_token, with_token, with_unread_line]
 
 
 def damaged(data, ways, most):
@@ -133,9 +135,9 @@ class Fuzzer:
         named = [] if asked is None else [str(asked)]
         line_ = [self.program, "explain", *by, self.words, self.lexicon, self.game, *named]
         printed = subprocess.run(line_, capture_output=True, check=False, timeout=60).stdout
-        said, likely, repair = printed.partition(b"\nLikely: ")
-        told = explained(words, lexicon, game, asked, said + b"\n" if likely else said, text)
-        self.compare(line_[1:], told + b"Likely: " + repair if likely else told, status_of(told))
+        said, word, repair = suggestion(printed)
+        told = explained(words, lexicon, game, asked, said, text)
+        self.compare(line_[1:], told + word + repair, status_of(told))
 
     def page(self, by, ways):
         """`page` has to print the verdict line of one of some answers, and to write a page that can be read exactly where there is a record."""

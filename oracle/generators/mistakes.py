@@ -13,6 +13,8 @@ from ruling import random_rules
 
 choose = random.choice
 MOST = 999_999
+FRONTS = [b"", b"", b"=", b"<", b".", b" >", b"\t>", b"\xc2\xa0>", b"\xa0>", b"1. >", b">>", b"  ", b"\xef\xbb\xbf>", b"_"]
+REMARKS = [b"#note\n8H AT 4 4\n", b"#note x\n", b"8H AT 4 4\n", b"A 8H 4 4\n", b"B (time) -10 20 x\n", b"A - B 350 401\n", b"A: well played\n", b"A: 8H AT 4\n", b"\n"]
 
 
 def moved(event):
@@ -67,6 +69,26 @@ def with_mistake(events):
         5: lambda: replace(event, total=event.total + choose([-10, -1, 1, 100])),
     }
     return [*events[:place], change[random.randrange(6)](), *events[place + 1 :]]
+
+
+def with_unread_line(game):
+    """The text of a game in which an event begins otherwise than with >, or has no colon; or with a remark among its events."""
+    lines = game.splitlines(keepends=True)
+    at = random.randrange(len(lines) + 1)
+    if at == len(lines) or likely(0.3):
+        return b"".join([*lines[:at], choose(REMARKS), *lines[at:]])
+    front = choose(FRONTS)
+    changed = front + lines[at].removeprefix(b">")
+    if likely(0.2):
+        changed = changed.replace(b":", b"", 1)
+    return b"".join([*lines[:at], changed, *lines[at + 1 :]])
+
+
+def with_unread_lines(game):
+    """The same, mostly as it is."""
+    for _ in range(choose([0, 0, 1, 3]) if game else 0):
+        game = with_unread_line(game)
+    return game
 
 
 def undrawn(rules):

@@ -11,13 +11,18 @@ from objects import answers_of
 MARK = b"\xef\xbb\xbf"
 
 
+def beside(more):
+    """How many points more the best play would have given, or that it would have given as many; nothing where it would have given fewer."""
+    return f", {more} more" if more > 0 else ", equal" if more == 0 else ""
+
+
 def note(answer, more=()):
     """The note of an event, from what is answered of it, and the next best plays."""
     parts = []
     if answer["turn"] == "no play":
         parts.append("no play is possible")
     if best := answer["best"]:
-        parts.append(f"best {best['place']} {best['text']} {best['score']}" + (f", {best['more']} more" if best["more"] > 0 else ""))
+        parts.append(f"best {best['place']} {best['text']} {best['score']}{beside(best['more'])}")
     if more:
         parts.append(f"then {', '.join(map(str, more))}")
     if answer["unlisted"]:

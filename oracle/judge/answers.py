@@ -9,7 +9,7 @@ from archive_lines import states_latin
 from best import MANY, best_plays
 from deals import event_of, judge_deal, settled_verdicts, settled_ways
 from games import board_after, go_through
-from hints import beside
+from hints import beside, operands
 from lexicons import build, check, convert
 from records import Fault, read
 from rules import ENGLISH
@@ -206,4 +206,5 @@ def error_of(words, output, game):
     """What standard error gets in addition to an answer to a command line: where an input is bad, what may help; where `judge` leaves a game open,
     that a search may settle it; where the file `game` is no game, why."""
     hint = beside(words, output) if output.startswith(b"bad ") else b""
-    return hint + advice(words[0], output, game, game.read_bytes())
+    names = operands([str(it) for it in words])
+    return hint + advice(words[0], output, game, game.read_bytes(), names[3] if words[0] == "top" and len(names) > 3 else None)

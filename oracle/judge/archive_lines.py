@@ -5,10 +5,11 @@ from deals import decide, event_of
 from games import go_through
 from records import Fault, read
 from rules import ENGLISH
+from unread import unread as unread_lines
 
-NAMES = ["name", "verdict", "ending", "line", "fault", "events", "player1", "total1", "player2", "total2", "unlisted"]
-JSON_NAMES = [*NAMES, "fault_name", "expected"]
-NUMBERS = {"line", "events", "total1", "total2", "unlisted"}
+NAMES = ["name", "verdict", "ending", "line", "fault", "events", "player1", "total1", "player2", "total2", "unlisted", "unread_lines"]
+JSON_NAMES = [*NAMES[:-1], "fault_name", "expected", NAMES[-1]]
+NUMBERS = {"line", "events", "total1", "total2", "unlisted", "unread_lines"}
 NUMBER_FAULTS = ("WrongScore ", "WrongTotal ")
 STATUSES = {"legal": 0, "illegal": 1, "unsettled": 2, "bad record": 3, "no game": 3, "unread": 4}
 ESCAPES = {"\\": "\\\\", "\t": "\\t", "\n": "\\n"}
@@ -52,7 +53,7 @@ def ways(name, game, listed, rules=ENGLISH, dealt=False):
     except Fault as fault:
         return [fields(name, "bad record", line=fault.line or None, fault=fault.why)]
     events = [event_of(it) for it in said]
-    told = known(players, events, states_latin(game))
+    told = known(players, events, states_latin(game)) | {"unread_lines": len(unread_lines(game))}
     if not events:
         return [fields(name, "no game", unlisted=0, **told)]
     numbers = [k for k, text in enumerate(game.removeprefix(b"\xef\xbb\xbf").split(b"\n"), 1) if text.startswith(b">")]

@@ -9,7 +9,7 @@ from deals import course, epoch
 from games import Game, step
 from rules import RACK, SIDE
 from sheets import lay, square_text
-from slips import notes_of, order_of, slips_of
+from slips import fits, notes_of, order_of, slips_of, stands_at
 
 PREMIUMS = {"DL": "double letter", "TL": "triple letter", "DW": "double word", "TW": "triple word"}
 
@@ -69,7 +69,7 @@ def board_object(board, event, rules):
 
 
 def elsewhere(scene):
-    """Where the text of a play has the written score."""
+    """Where the text of a play has the written score, and the record stands with it to its end."""
     event, found, listed = scene.event, [], []
     for direction in (ACROSS, ACROSS[::-1]):
         for at in [(row, column) for row in range(SIDE) for column in range(SIDE)]:
@@ -78,7 +78,7 @@ def elsewhere(scene):
             except Refused:
                 continue
             formed = runs(after, new, direction) + runs(after, new, direction[::-1])
-            if score_of(after, new, formed, scene.game.rules) == event.score:
+            if score_of(after, new, formed, scene.game.rules) == event.score and stands_at(scene, at, direction):
                 found.append({"square": named(at), "direction": way(direction)})
                 words = ["".join(after[square] for square in run).upper() for run in formed]
                 listed += found[-1:] if all(word in scene.listed for word in words) else []
@@ -146,7 +146,8 @@ def play_facts(scene, name):
 def score_facts(scene, right):
     event, numbers = scene.event, {"right": right, "written": scene.event.score}
     if event.kind == "play":
-        return [fact("PlayScore", **numbers), *slip_facts(scene, True), *elsewhere(scene)]
+        total = [fact("TotalFits", score=right, right=event.total)] if fits(scene, right) else []
+        return [fact("PlayScore", **numbers), *slip_facts(scene, True), *(elsewhere(scene) or total)]
     if event.kind == "rack":
         return [fact("LastRackScore", player=event.player + 1, rack=event.tiles, doubled=scene.game.out is not None, **numbers)]
     return [fact({"pass": "PassScore", "withdraw": "WithdrawalScore"}.get(event.kind, "ExchangeScore"), **numbers)]
@@ -259,6 +260,15 @@ def exchange_lines(places, now, lines):
             yield {"line": lines[k], "player": it.event.player + 1, "number_exchanged": it.event.size}
 
 
+def left_facts(places, now, lines):
+    found = told.left_over(places, now)
+    if not found:
+        return []
+    latest, left, kind, has = found
+    tiles = {"tile": kind, "rack": told.tiles_text(left), "number": has, "limit": left[kind]}
+    return [fact("LeftOver", player=places[now].holder + 1, **tiles, on_lines=[lines[latest], lines[now]])]
+
+
 def rack_facts(events, listed, rules, now, lines, text, dealt):
     places = course(events, listed, rules)
     name, _, kind = text.partition(" ")
@@ -266,7 +276,7 @@ def rack_facts(events, listed, rules, now, lines, text, dealt):
         holder = places[now].holder
         must = told.must_have(places, holder, now)
         shown = list(rack_lines(places, now, lines, holder))
-        return [fact(name, player=holder + 1, rack=told.tiles_text(must), number=must.total(), limit=places[now].racks[holder], lines=shown)]
+        return [*left_facts(places, now, lines), fact(name, player=holder + 1, rack=told.tiles_text(must), number=must.total(), limit=places[now].racks[holder], lines=shown)]
     if name == "TilesShort":
         laid = sum(it.used[kind] for it in places[:now] if it.stands)
         racks = [told.must_have(places, player, now)[kind] for player in (0, 1)]
@@ -300,10 +310,14 @@ def facts_at(events, lines, at, listed, rules, verdict, dealt):
 def whole_facts(verdict, events, lines, listed, rules):
     if not events:
         return [fact("NoEvent")]
-    plays, turns, hidden = notes_of(events, lines, listed, rules)
-    unlisted = [{"line": line, "player": player + 1, "words": words} for line, player, words in plays]
+    notes = notes_of(events, lines, listed, rules)
+    unlisted = [{"line": line, "player": player + 1, "words": words} for line, player, words in notes.plays]
     found = fact("Legal" if verdict.startswith("legal") else "Unsettled")
-    return [found, fact("Unlisted", plays=unlisted), fact("RacksHidden", number=len(hidden), limit=len(turns), on_lines=hidden)]
+    parts = [{"line": line, "player": player + 1, "number_shown": shown, "number_held": has} for line, player, shown, has in notes.parts]
+    racks = fact("RacksHidden", number=len(notes.hidden), limit=len(notes.turns), on_lines=notes.hidden) | ({"lines": parts} if parts else {})
+    due = [fact(notes.due[0], player=notes.due[1] + 1, other=2 - notes.due[1])] if notes.due else []
+    other = [fact("OtherList")] if notes.is_other_list() else []
+    return [found, fact("Unlisted", plays=unlisted), *other, racks, *due]
 
 
 def explained_keys(verdict, game, events, lines, listed, rules, asked, dealt=False):

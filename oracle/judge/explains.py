@@ -6,10 +6,11 @@ import clashes
 from boards import ACROSS, Refused, place, runs, score_of
 from deals import course, epoch, gone, low
 from games import Game, step
-from records import BLANKS, Fault, number, read
-from rules import ENGLISH, RACK, SIDE
+from records import BLANKS, Fault, number, position, read, word
+from rules import ENGLISH, KINDS, RACK, SIDE
 from sheets import lay, square_text
-from slips import notes_of, order_of, slips_of
+from slips import fits, notes_of, order_of, slips_of, stands_at
+from unread import MOST_NAMED, more_text, others, time_racks, unread_text
 
 BOM = b"\xef\xbb\xbf"
 PREMIUMS = {"DL": ", double letter", "TL": ", triple letter", "DW": ", double word", "TW": ", triple word"}
@@ -118,8 +119,8 @@ def in_words(items, last="and"):
 
 
 def spots_text(scene):
-    """Where the text of a play has the written score: the places at which each word is in the list, where there is one, and else all;
-    three are named at the most."""
+    """Where the text of a play has the written score and the record stands with it to its end: the places at which each word is in the list, where there
+    is one, and else all; three are named at the most."""
     event, found, listed = scene.event, [], []
     for direction in (ACROSS, ACROSS[::-1]):
         for at in [(row, column) for row in range(SIDE) for column in range(SIDE)]:
@@ -128,7 +129,7 @@ def spots_text(scene):
             except Refused:
                 continue
             formed = runs(after, new, direction) + runs(after, new, direction[::-1])
-            if score_of(after, new, formed, scene.game.rules) == event.score:
+            if score_of(after, new, formed, scene.game.rules) == event.score and stands_at(scene, at, direction):
                 found.append(spot_name(at, direction))
                 words = ["".join(after[square] for square in run).upper() for run in formed]
                 listed += found[-1:] if all(word in scene.listed for word in words) else []
@@ -165,6 +166,11 @@ def slips_text(scene, is_wrong):
     return told
 
 
+def missing_text(scene, points):
+    """What line is missing: without points it is a pass or an exchange."""
+    return f"A line of {scene.other} with +{points}" if points else f"A pass or an exchange of {scene.other}"
+
+
 def order_text(scene):
     """What seems to be wrong with the order of the lines."""
     name, points = order_of(scene)
@@ -173,7 +179,7 @@ def order_text(scene):
         None: lambda: "",
         "StandsTwice": lambda: f"This line says the same as line {lines[at - 1]}; it may have been written twice by mistake.\n",
         "WrongWay": lambda: f"With lines {lines[at]} and {lines[at + 1]} the other way round the rules allow both.\n",
-        "Missing": lambda: f"A line of {scene.other} with +{points} seems to be missing between lines {lines[at - 1]} and {lines[at]}.\n",
+        "Missing": lambda: f"{missing_text(scene, points)} seems to be missing between lines {lines[at - 1]} and {lines[at]}.\n",
         "AllowedFor": lambda: f"If this is a line of {scene.other}, the rules allow it.\n",
     }[name]()
 
@@ -226,7 +232,8 @@ PLAY_FAULTS = {
 def wrong_score(scene, right):
     event, written = scene.event, f"{right}, but {scene.event.score} is written.\n"
     if event.kind == "play":
-        return f"The play scores {written}{slips_text(scene, True)}{spots_text(scene)}"
+        total = f"With {right} the total is {event.total}, as is written.\n" if fits(scene, right) else ""
+        return f"The play scores {written}{slips_text(scene, True)}{spots_text(scene) or total}"
     if event.kind == "rack":
         what = "gets twice" if scene.game.out is not None else "loses"
         return f"{scene.nick} {what} the points of the rack {event.tiles}: the score is {written}"
@@ -268,14 +275,20 @@ def bad_bonus(scene):
     return f"{front} {listed} {are}, so the bonus can be {amounts}, but {scene.event.score} is written.\n"
 
 
+def due_text(what, player, nicks):
+    """Which last rack is missing."""
+    if what == "Out":
+        return f"{nicks[player]} is out, so there are no more turns. What is missing is {nicks[1 - player]}'s last rack, on a line of {nicks[player]}.\n"
+    return f"{nicks[player]} has lost the points of a rack, so there are no more turns. What is missing is {nicks[1 - player]}'s last rack.\n"
+
+
 def game_over(scene):
     game, nicks = scene.game, scene.nicks
     if game.complete:
         return "The game is complete: the last racks are in.\n"
     if game.out is not None:
-        return f"{nicks[game.out]} is out, so there are no more turns. What is missing is {nicks[1 - game.out]}'s last rack, on a line of {nicks[game.out]}.\n"
-    ended = scene.event.player if game.ended[scene.event.player] else 1 - scene.event.player
-    return f"{nicks[ended]} has lost the points of a rack, so there are no more turns. What is missing is {nicks[1 - ended]}'s last rack.\n"
+        return due_text("Out", game.out, nicks)
+    return due_text("RackLost", scene.event.player if game.ended[scene.event.player] else 1 - scene.event.player, nicks)
 
 
 def not_over(scene):
@@ -363,10 +376,33 @@ def must_have(places, player, now):
     return low(places, player, now) - gone(places, player, now)
 
 
+def left_over(places, now):
+    """If the line of a place shows a whole rack, and fewer tiles of a kind than the lines before it leave there: the last of these lines, what is left, the
+    kind, and how many the line shows of it."""
+    holder, latest, left = places[now].holder, None, Counter()
+    for k in range(epoch(places, holder, now), now):
+        if places[k].holder == holder and places[k].need.total():
+            latest, left = k, (left | places[k].need) - Counter(places[k].leaves(holder))
+    if latest is None or places[now].need.total() != places[now].racks[holder]:
+        return None
+    kind = next((it for it in KINDS if places[now].need[it] < left[it]), None)
+    return kind and (latest, left, kind, places[now].need[kind])
+
+
+def left_text(places, now, lines):
+    """What the lines before leave on a rack that a line shows without it."""
+    found = left_over(places, now)
+    if not found:
+        return []
+    latest, left, kind, has = found
+    return [f"After line {lines[latest]} {tiles_text(left)} is left, but line {lines[now]} has {f'only {has}' if has else 'no'} {kind}."]
+
+
 def rack_too_big(places, now, lines, nicks):
     holder = places[now].holder
     must, size = must_have(places, holder, now), places[now].racks[holder]
-    told = [f"{nicks[holder]} has {count(size, 'tile')} here, but by the lines below the rack would have to hold {must.total()}: {tiles_text(must)}."]
+    told = left_text(places, now, lines)
+    told += [f"{nicks[holder]} has {count(size, 'tile')} here, but by the lines below the rack would have to hold {must.total()}: {tiles_text(must)}."]
     for k in range(epoch(places, holder, now), now + 1):
         it = places[k]
         if it.holder == holder and it.need.total():
@@ -458,7 +494,15 @@ def missing(written, why):
         nick, colon, _ = written[1:].partition(b":")
         names = bare_fields(nick)
         return b" Write " + b"_".join(names) + b"." if colon and len(names) > 1 else b""
+    if why == "ThirdPlayer":
+        return b" The line begins with more than one >." if written.startswith(b">") and written[1:].lstrip(BLANKS).startswith(b">") else b""
     fields = bare_fields(written.partition(b":")[2])
+    if why == "Number":
+        return b" Numbers are written without commas and full stops." if re.search(rb"[,.]", b"".join(fields[-2:])) else b""
+    if why == "Fields" and len(fields) > 5:
+        return behind_text([number(field) is not None for field in fields])
+    if why == "Code" and len(fields) > 2 and number(fields[-1]) is not None and number(fields[-2]) is not None:
+        return code_text(fields[-3])
     if why not in ("Fields", "Rack", "Position", "Word", "Code") or not 1 <= len(fields) <= 5:
         return b""
     if number(fields[-1]) is None:
@@ -466,6 +510,21 @@ def missing(written, why):
     if len(fields) == 1 or number(fields[-2]) is None:
         return b" The score or the total is missing: an event ends with both."
     return b" The play or the code before the score is missing." if len(fields) == 2 else b""
+
+
+def behind_text(numbers):
+    """Where a note stands, if the fields of a line go on after two numbers."""
+    goes_on = any(numbers[k] and numbers[k + 1] for k in (1, 2, 3))
+    return b" What comes after the total belongs on a line of its own that begins with #note." if goes_on else b""
+
+
+def code_text(code):
+    """What is missing of an event whose code is none, or how the code is written."""
+    if position(code):
+        return b" The word of the play is missing."
+    if code.startswith(b"(") and code.endswith(b")"):
+        return b" The codes (time) and (challenge) are written in small letters, and a last rack in capitals."
+    return b" The position of the play is missing." if word(code) else b""
 
 
 def third_player(game, line, written):
@@ -522,16 +581,27 @@ def judged_text(events, lines, at, listed, rules, nicks, verdict, printed=""):
 
 
 def notes_text(events, lines, listed, rules, nicks):
-    """Which plays stand with words that are not in the list, and which turns show no rack."""
-    plays, turns, hidden = notes_of(events, lines, listed, rules)
-    told = "" if plays else "Each word of every play that stands is in the word list.\n"
-    for line, player, words in plays:
+    """Which plays stand with words that are not in the list, which turns show no rack or a part of it, and which last rack is missing."""
+    notes = notes_of(events, lines, listed, rules)
+    told = "" if notes.plays else "Each word of every play that stands is in the word list.\n"
+    for line, player, words in notes.plays:
         told += f"Line {line}: {nicks[player]}'s play stands with {in_words(words)}, which {'is' if len(words) == 1 else 'are'} not in the word list.\n"
-    if turns and not hidden:
-        return told + "Every turn shows its rack.\n"
-    if turns and len(hidden) == len(turns):
+    told += OTHER_LIST if notes.is_other_list() else ""
+    told += racks_text(notes)
+    return told + (due_text(*notes.due, nicks) if notes.due else "")
+
+
+def racks_text(notes):
+    """Which turns show no rack, and which a part of it."""
+    told = "".join(f"Line {line} shows {shown} of {count(has, 'tile')}.\n" for line, _, shown, has in notes.parts)
+    if not notes.hidden:
+        if not notes.parts:
+            return "Every turn shows its rack.\n" if notes.turns else ""
+        return told + ("Every other turn shows its rack.\n" if len(notes.parts) < len(notes.turns) else "")
+    if len(notes.hidden) == len(notes.turns):
         return told + "No turn shows its rack.\n"
-    return told + (f"No rack is shown on {count(len(hidden), 'turn')}: line{'' if len(hidden) == 1 else 's'} {in_words([str(it) for it in hidden])}.\n" if hidden else "")
+    which = f"line{'' if len(notes.hidden) == 1 else 's'} {in_words([str(it) for it in notes.hidden])}"
+    return f"{told}No rack is shown on {count(len(notes.hidden), 'turn')}: {which}.\n"
 
 
 def whole_text(verdict, events, lines, listed, rules, nicks):
@@ -551,12 +621,13 @@ def explained(verdict, game, players, events, lines, listed, rules=ENGLISH, aske
     illegal = re.match("illegal line ([0-9]+):", verdict)
     wanted = asked if asked is not None else int(illegal[1]) if illegal else None
     nicks = [player[0].decode("latin-1") if player else "the other player" for player in players]
+    passed_over = unread_text(game) + time_racks(game)
     if wanted is None:
-        return f"{verdict}\n{whole_text(verdict, events, lines, listed, rules, nicks)}".encode("latin-1")
+        return f"{verdict}\n{passed_over}{whole_text(verdict, events, lines, listed, rules, nicks)}".encode("latin-1")
     at = next((k for k, line in enumerate(lines) if line >= wanted), None)
     if at is None:
-        return b"bad line: no event is on it or after it\n"
-    told = f"{verdict}\nline {lines[at]}: ".encode("latin-1") + line_of(game, lines[at]) + b"\n"
+        return b"bad line: no event is on it or after it\n" + passed_over.encode()
+    told = f"{verdict}\nline {lines[at]}: ".encode("latin-1") + line_of(game, lines[at]) + b"\n" + passed_over.encode()
     told += judged_text(events, lines, at, listed, rules, nicks, verdict, printed).encode("latin-1")
     board, end, _ = lay(events, at)
     if end < at:
@@ -567,6 +638,14 @@ def explained(verdict, game, players, events, lines, listed, rules=ENGLISH, aske
 
 def explained_fault(game, fault: Fault):
     """What is to be printed of a text that is no record."""
+    more = others(game, fault)
+    told = b"".join(fault_text(game, it) for it in [fault, *more[:MOST_NAMED]])
+    left = more_text(len(more), "begins with > and is no event", "begin with > and are no events")
+    return fault.text() + told + (left + unread_text(game)).encode()
+
+
+def fault_text(game, fault):
+    """A line that is no event, and what is wrong with it."""
     line = f"line {fault.line}: ".encode() + line_of(game, fault.line) + b"\n" if fault.line else b""
     lacks = missing(line_of(game, fault.line), fault.why).removeprefix(b" ") if fault.line else b""
-    return fault.text() + line + record_text(game, fault) + (lacks + b"\n" if lacks else b"")
+    return line + record_text(game, fault) + (lacks + b"\n" if lacks else b"")

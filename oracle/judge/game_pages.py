@@ -10,6 +10,7 @@ from explains import FACTORS, judged_text, squares_of, whole_text
 from games import Game, is_judged, step
 from rules import KINDS, RACK, SIDE
 from sheets import lay, off_board
+from unread import time_racks, unread_text
 
 COLUMNS = "ABCDEFGHIJKLMNO"
 CENTRE = (7, 7)
@@ -89,6 +90,17 @@ def signed(points):
     return f"{points:+d}"
 
 
+def bracketed(best, board):
+    """A best play with brackets around the tiles that it plays through, in place of the dots."""
+    spot, word, points = best.split(" ")
+    down = spot[0].isalpha()
+    column, row = (spot[0], spot[1:]) if down else (spot[-1], spot[:-1])
+    start = int(row) - 1, COLUMNS.index(column)
+    letters = [board[start[0] + down * k, start[1] + (not down) * k] if symbol == "." else symbol for k, symbol in enumerate(word)]
+    marked = "".join(f"({letter})" if symbol == "." else letter for symbol, letter in zip(word, letters))
+    return f"{spot} {marked.replace(')(', '')} {points}"
+
+
 def facts(events, listed, rules):
     """Of each event its best play, the points more, its unlisted words and its right numbers."""
     right, _ = corrected(events, listed, rules)
@@ -100,7 +112,9 @@ def facts(events, listed, rules):
                 if event.rack and len(event.rack) == game.racks[event.player]:
                     best = best_plays(dict(game.board), event.rack, listed, rules, 1)[1].strip()
                     if best != "none":
-                        more = int(best.split(" ")[-1]) - right[k].score
+                        taken_back = k + 1 < len(events) and events[k + 1].kind == "withdraw"
+                        more = int(best.split(" ")[-1]) - (0 if taken_back else right[k].score)
+                        best = bracketed(best, game.board)
                 else:
                     best = "rack not shown"
             try:
@@ -109,7 +123,7 @@ def facts(events, listed, rules):
                 stands = False
         should = [f"score {right[k].score}"] if right[k].score != event.score else []
         should += [f"total {right[k].total}"] if right[k].total != event.total else []
-        told.append(("best" if more == 0 else best, more, unlisted, " ".join(should)))
+        told.append((best, more, unlisted, " ".join(should)))
     return told
 
 
@@ -144,7 +158,7 @@ def rows(events, lines, nicks, found, rules, faulty):
         text, full = happened(events, k)
         back = k + 1 < len(events) and events[k + 1].kind == "withdraw"
         cells = [str(lines[k]), nicks[event.player], text, signed(event.score), str(event.total), sorted_tiles(event.rack or ""), best,
-                 f"+{more}" if more is not None and more > 0 else ""]  # fmt: skip
+                 "" if more is None or more < 0 else f"+{more}" if more else "equal"]  # fmt: skip
         cells += [unlisted] if columns[0] else []
         cells += [should] if columns[1] else []
         kinds = ["fault"] * (k == faulty) + (["back"] if back else ["other"] if event.kind != "play" else [])
@@ -215,6 +229,7 @@ def expected(verdict, players, events, lines, listed, rules, words, rules_text=N
     place_at = next(k for k, line in enumerate(lines) if line >= int(illegal[1])) if illegal else None
     nicks = [player[0].decode("latin-1") if player else "the other player" for player in players]
     reason = whole_text(verdict, events, lines, listed, rules, nicks) if place_at is None else judged_text(events, lines, place_at, listed, rules, nicks, verdict, printed)
+    reason = unread_text(game) + time_racks(game) + reason
     names, shown = [name_of(player) for player in players], [player[0].decode(errors="replace") if player else "" for player in players]
     totals = [next((it.total for it in reversed(events) if it.player == seat), 0) for seat in (0, 1)]
     found = facts(events, listed, rules)

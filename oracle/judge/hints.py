@@ -60,7 +60,7 @@ def rack_clause(rack):
     """What is wrong with the rack of a command line, or that it has none."""
     if rack is None:
         return "the line shows no rack: name one after GAME"
-    for tile in rack:
+    for tile in (it.upper() if it.isascii() else it for it in rack):
         if not (tile == "?" or tile.isascii() and tile.isupper()):
             return f"'{tile}' in the rack is no tile: tiles are A to Z, and ? for a blank"
     if not rack:
@@ -80,8 +80,11 @@ def clause_of(words, line, folder, stdin):
         return None
     listed = "standard input" if names[0] == "-" else names[0]
     if line.startswith(b"bad word list"):
-        front = stdin[:4] if names[0] == "-" else Path(folder, names[0]).read_bytes()[:4]
-        return f"{listed} is a compiled lexicon and no word list: the two names are the wrong way round" if front in (b"GAD1", b"GAD2") else None
+        front = (stdin if names[0] == "-" else Path(folder, names[0]).read_bytes())[:64]
+        if front[:4] in (b"GAD1", b"GAD2"):
+            return f"{listed} is a compiled lexicon and no word list: the two names are the wrong way round"
+        is_record = re.match(rb"(\xef\xbb\xbf)?(>|#[a-z])", front)
+        return f"{listed} is a game record and no word list: the files are WORDS, LEXICON and GAME, in this order" if is_record else None
     if line.startswith((b"bad lexicon: Missing", b"bad lexicon: Extra", b"bad lexicon: WordCount")):
         return f"{names[1]} is the lexicon of another list than {listed}: make its own by referee build"
     return None

@@ -13,6 +13,7 @@ from games import Game, board_after, go_through, is_judged, step
 from records import Fault, read
 from rules import ENGLISH, KINDS, SIDE
 from sheets import last_total, lay, off_board, square_text
+from unread import unread_objects
 
 NAMES = {"unknown": "exchange", "rack": "last rack"}
 
@@ -27,6 +28,11 @@ def refused(answer):
     name, _, path = fault.partition(" ")
     told = {"name": name} | ({"path": path} if path else {}) if fault else None
     return {"verdict": re.sub(" line [0-9]+$", "", what), "line": int(place[1]) if place else None, "fault": told}
+
+
+def unread_in(game):
+    """The last key of an object about a record."""
+    return {"unread_lines": unread_objects(game)}
 
 
 def head(verdict, line=None, fault=None):
@@ -127,7 +133,7 @@ def game_objects(listed, players, events, rules, lines, verdicts):
     allowed = not go_through(events, listed, rules=rules)[0].startswith("illegal")
     if allowed:
         told = [said | answer for said, answer in zip(told, answers_of(events, listed, rules))]
-    left = [sum(it["best"]["more"] for it in told if it["best"] and it["player"] == number) for number in (1, 2)]
+    left = [sum(max(0, it["best"]["more"]) for it in told if it["best"] and it["player"] == number) for number in (1, 2)]
     names = [
         {"nick": text_or_none(nicks[k]), "name": text_or_none(players[k][1] if players[k] else b""), "left": left[k] if allowed else None} for k in range(2)
     ]
@@ -140,7 +146,7 @@ def judged_objects(words, lexicon, game, text=None, settle=False):
     def objects(listed, players, events, rules):
         reports = settled_ways(events, listed, rules) if settle else [judge_deal(events, listed, rules)]
         verdicts = [told_of(report.split("\n")[0] + "\n", game, players).decode().removesuffix("\n") for report in reports]
-        return game_objects(listed, players, events, rules, lines_of(game), verdicts)
+        return [told | unread_in(game) for told in game_objects(listed, players, events, rules, lines_of(game), verdicts)]
 
     answer = answered(words, lexicon, game, text, objects)
     return answer if isinstance(answer, list) else [refused(answer)]
@@ -181,7 +187,7 @@ def audited_objects(words, lexicon, game, text=None):
         both = [player or (b"", b"") for player in (players[0], players[1])]
         names = [{"nick": text_or_none(nick), "name": text_or_none(name)} for nick, name in both]
         told = list(wrong_objects(events, right, stop, lines_of(game), [nick for nick, _ in both]))
-        return [audit_verdict(verdict) | {"players": names, "wrong": told} for verdict in said]
+        return [audit_verdict(verdict) | {"players": names, "wrong": told} | unread_in(game) for verdict in said]
 
     answer = answered(words, lexicon, game, text, objects)
     return answer if isinstance(answer, list) else [refused(answer)]
@@ -192,11 +198,11 @@ def explained_objects(words, lexicon, game, asked=None, text=None):
 
     def objects(listed, players, events, rules):
         if not events:
-            return [head("no game")]
+            return [head("no game") | unread_in(game)]
         verdicts = [told_of(report.split("\n")[0] + "\n", game, players).decode().removesuffix("\n") for report in settled_ways(events, listed, rules)]
         ways = [(verdict, dealt) for verdict in verdicts for dealt in ((False, True) if verdict.endswith(": NoDeal") else (False,))]
         keys = [explained_keys(verdict, game, events, lines_of(game), listed, rules, asked, dealt) for verdict, dealt in ways]
-        return [head("bad line") if it is None else verdict_of(verdict) | it for (verdict, _), it in zip(ways, keys)]
+        return [head("bad line") if it is None else verdict_of(verdict) | it | unread_in(game) for (verdict, _), it in zip(ways, keys)]
 
     answer = answered(words, lexicon, game, text, objects)
     return answer if isinstance(answer, list) else [refused(answer)]
@@ -251,7 +257,7 @@ def boarded_object(game, before=None, text=None):
         "players": [{"nick": text_or_none(it[0]), "name": text_or_none(it[1]), "total": last_total(events[:end], k)} for k, it in enumerate(names)],
         "rack": (sorted_tiles(there.rack) or None) if there else None,
         "off_board": {"number": sum(off.values()), "kinds": [{"tile": kind, "number": off[kind]} for kind in KINDS]},
-    }
+    } | unread_in(game)
 
 
 def checked_object(words, lexicon):

@@ -1,5 +1,6 @@
 """What `repair` prints of an illegal record behind the verdict line, by code of the second judge."""
 from collections import Counter
+from dataclasses import replace
 
 from changes import ordered
 from repairs import NOTHING, WRONG_NUMBER, Front, lines, many_tried, repairs
@@ -50,6 +51,16 @@ def what_is_missing(event, nicks):
     return nick + said[event.kind] + (what_happened(event) if event.kind == "play" else "")
 
 
+def which_blank(written, right):
+    """Which tile of a play is a blank, or is none, where a single letter of it is written the other way."""
+    places = [k for k, (one, other) in enumerate(zip(written.word, right.word)) if one != other]
+    if len(written.word) != len(right.word) or written.word.upper() != right.word.upper() or len(places) != 1:
+        return ""
+    row, column = (at + places[0] * step for at, step in zip(right.at, right.direction))
+    letter = right.word[places[0]]
+    return f": the {letter.upper()} on {row + 1}{chr(65 + column)} is {'a' if letter.islower() else 'not a'} blank"
+
+
 def what_is_other(written, right, nicks):
     """What should stand on a line, and what stands there."""
     if written.player != right.player:
@@ -59,7 +70,7 @@ def what_is_other(written, right, nicks):
     if written.kind == "play" and written.word != right.word and (written.at, written.direction) != (right.at, right.direction):
         return f"{what_happened(right)}, not {what_happened(written)}"
     if written.kind == "play" and written.word != right.word:
-        return f"{what_happened(right)}, not {written.word}"
+        return f"{what_happened(right)}, not {written.word}{which_blank(written, right)}"
     if written.kind == "play":
         return f"{what_happened(right)}, not at {position(written)}"
     if written.kind == right.kind and written.kind in ("challenge", "time"):
@@ -164,37 +175,84 @@ def pairs_text(events, found, nicks="AB", number=LINES):
     return "with two changes:\n" + text if text else ""
 
 
-def likely_repair(found, two, events, listed, rules=ENGLISH):
-    """The first of the repairs, if it is ahead of the second by a number at the least, and also of the record as it is but for its numbers, and if no
-    two changes cost less."""
-    if not found or two or not all(it.dealt for it in found):
-        return None
+def with_numbers(events, listed, rules=ENGLISH):
+    """The record as it is but for its numbers, if no deal is ruled out."""
     front = Front(rules, events, listed)
     nothing = front.with_change(NOTHING)
-    others = [*found[1:2], *([nothing] if nothing and front.dealt(nothing) else [])]
-    return found[0] if all(found[0].cost + WRONG_NUMBER <= it.cost for it in others) else None
+    return nothing and front.dealt(nothing)
 
 
-def likely_text(repair, events, nicks="AB"):
-    """What `explain` says of the likely repair, after the board."""
+def rack_then(repair, events):
+    """The rack that a repair of a stated rack alone gives the line, and None for any other repair."""
+    change = repair.change
+    if change.replaced != 1 or len(change.there) != 1:
+        return None
+    written, there = events[change.place], change.there[0]
+    return Counter(there.rack) if there.rack != written.rack and replace(there, rack=written.rack) == written else None
+
+
+def says_less(first, other, events):
+    """Whether another repair says the same of a stated rack, and less: it leaves out the tile for which the first has another one, or all tiles."""
+    racks = [rack_then(it, events) for it in (first, other)]
+    if first.change.place != other.change.place or None in racks or not racks[0]:
+        return False
+    written = Counter(events[first.change.place].rack)
+    return not racks[1] or (racks[0].total() == written.total() and racks[1] == written - (written - racks[0]))
+
+
+def choice(found, two, alone, events):
+    """Which sheet is to be kept: 'repair', that of the first repair; 'numbers', that with right numbers; 'open' where that is not known; or none. A
+    repair is ahead of what costs a wrong number more, and of those that say less; and so are the numbers alone of what costs more."""
+    if not all(it.dealt for it in found):
+        return "open"
+    costs = [it.cost for it in [*found[:1], *two[:1]]]
+    if alone and all(alone.cost + WRONG_NUMBER <= cost for cost in costs):
+        return "numbers" if alone.dealt else "open"
+    if not found or two and two[0].cost < found[0].cost:
+        return None
+    rivals = [it for it in found[1:] if not says_less(found[0], it, events)] + ([alone] if alone else [])
+    return "repair" if all(found[0].cost + WRONG_NUMBER <= it.cost for it in rivals) else None
+
+
+def likely_repair(found, two, events, listed, rules=ENGLISH):
+    """The first of the repairs, if it is to be kept."""
+    return found[0] if choice(found, two, with_numbers(events, listed, rules), events) == "repair" else None
+
+
+def is_of_amount(change, events):
+    """Whether a change is one of a bonus for a challenge or of a penalty for time: it is missing, or it is another amount."""
+    if change.replaced > 1 or len(change.there) != 1 or change.there[0].kind not in ("challenge", "time"):
+        return False
+    return not change.replaced or events[change.place].kind == change.there[0].kind and events[change.place].score != change.there[0].score
+
+
+def amount_repair(found, events, listed, rules=ENGLISH):
+    """The first of the repairs, if it is one of a bonus or a penalty, and costs less than correcting only the numbers."""
+    alone, told = with_numbers(events, listed, rules), [it for it in found if it.dealt]
+    good = alone and told and is_of_amount(told[0].change, events) and told[0].cost < alone.cost
+    return told[0] if good else None
+
+
+def suggested_text(words, repair, events, nicks="AB"):
+    """What `explain` says of the likely repair, or of a bonus or a penalty, after the board."""
     own = numbered(events)
-    return f"Likely: {what_changes(repair.change, repair.right(), own, nicks)}\n{evidence(repair, own)}"
+    return f"{words}: {what_changes(repair.change, repair.right(), own, nicks)}\n{evidence(repair, own)}"
 
 
 def repair_text(events, listed, rules=ENGLISH, nicks="AB", number=LINES):
     """All lines behind the verdict line of an illegal record, but for those about two changes."""
-    found, text, own = repairs(events, listed, rules), "", numbered(events)
-    front = Front(rules, events, listed)
-    nothing = front.with_change(NOTHING)
-    alone = nothing and front.dealt(nothing)
+    found, own, alone, told = repairs(events, listed, rules), numbered(events), with_numbers(events, listed, rules), []
     if alone:
-        text += "with only the numbers corrected it is a game\n" + evidence(alone, own)
-    told = [it for it in found if it.dealt]
-    for line in lines(told, events)[:number]:
+        text = "with only the numbers corrected it " + ("is a game\n" if alone.dealt else "may be a game: no deal was found\n")
+        told.append((alone.cost, 0, text + evidence(alone, own)))
+    for line in lines([it for it in found if it.dealt], events)[:number]:
         others = [differing(it, events) for it in line[1:]]
         more = f" (or with {', '.join(others)})" if others else ""
-        text += what_changes(line[0].change, line[0].right(), own, nicks) + more + "\n" + evidence(line[0], own)
-    if not told:
-        tried = many_tried(events, listed, rules)
-        text += f"none of {tried} single changes {'leaves fewer errors' if alone else 'makes it a game'}\n"
+        text = what_changes(line[0].change, line[0].right(), own, nicks) + more + "\n" + evidence(line[0], own)
+        told.append((line[0].cost, len(told) + 1, text))
+    text = "".join(it for _, _, it in sorted(told))
+    if not any(it.dealt for it in found):
+        known = all(it.dealt for it in found)
+        helps = ("leaves fewer errors", "is known to leave fewer errors") if alone else ("makes it a game", "is known to make it a game")
+        text += f"none of {many_tried(events, listed, rules)} single changes {helps[not known]}\n"
     return text

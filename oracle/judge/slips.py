@@ -111,6 +111,17 @@ def allowed_to(events, end, scene):
     return True
 
 
+def stands_at(scene, at, direction):
+    """Whether the rules allow every event of the record with the play at another place."""
+    moved = replace(scene.event, at=at, direction=direction)
+    return allowed_to([*scene.past, moved, *scene.later], len(scene.past) + 1 + len(scene.later), scene)
+
+
+def fits(scene, right):
+    """Whether the written total is right with the right score."""
+    return scene.event.total == scene.game.totals[scene.event.player] + right
+
+
 def said(event):
     return (event.player, event.kind, event.score, event.total, event.at, event.direction, event.word, Counter(event.tiles), event.size, Counter(event.rack))
 
@@ -130,7 +141,7 @@ def order_of(scene):
     event, past, later = scene.event, scene.past, scene.later
     if past and said(past[-1]) == said(event):
         return "StandsTwice", None
-    if later and allowed_to([*past, later[0], event, *later[1:]], len(past) + 2, scene):
+    if later and allowed_to([*past, later[0], event, *later[1:]], len(past) + 1 + len(later), scene):
         return "WrongWay", None
     if past and missing_line(scene) is not None:
         return "Missing", missing_line(scene)
@@ -142,13 +153,42 @@ def order_of(scene):
 # ---- a record whose events the rules allow
 
 
+@dataclass
+class Notes:
+    """The plays that stand with words that are not in the list: line, player, words; the lines of the turns, and of those without a rack; the racks that are
+    shown in part: line, player, how many tiles are shown, how many the player has; and the last rack that is missing: what happened, to whom."""
+
+    plays: list
+    turns: list
+    hidden: list
+    parts: list
+    due: tuple
+
+    def is_other_list(self):
+        """Whether ten words or more are not in the list."""
+        return sum(len(words) for _, _, words in self.plays) >= 10
+
+
+def due(game):
+    """The player who is out or has lost the points of a rack, where the other player's last rack is missing."""
+    if game.complete:
+        return None
+    if game.out is not None:
+        return "Out", game.out
+    lost = [player for player in (0, 1) if game.ended[player]]
+    return ("RackLost", lost[0]) if lost else None
+
+
 def notes_of(events, lines, listed, rules):
-    """The plays that stand with words that are not in the list: line, player, words; and the lines of the turns, and of those without a rack."""
-    game, plays, turns, hidden = Game(rules), [], [], []
+    """What is noted of a record that the rules allow: the plays that stand with words that are not in the list, the turns without a rack and those with a
+    part of it, and the last rack that is missing."""
+    game, plays, turns, hidden, parts = Game(rules), [], [], [], []
     for k, event in enumerate(events):
         if is_judged(event, game.out):
             turns.append(lines[k])
             hidden += [] if event.rack else [lines[k]]
+            has = game.racks[event.player]
+            parts += [(lines[k], event.player, len(event.rack), has)] if 0 < len(event.rack) < has else []
         try:
             step(game, event, events[k + 1] if k + 1 < len(events) else None, listed)
         except Refused:
@@ -156,4 +196,4 @@ def notes_of(events, lines, listed, rules):
         if event.kind == "play" and game.latest["stands"]:
             unlisted = [word for word in game.latest["words"] if word not in listed]
             plays += [(lines[k], event.player, unlisted)] if unlisted else []
-    return plays, turns, hidden
+    return Notes(plays, turns, hidden, parts, due(game))

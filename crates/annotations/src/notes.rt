@@ -17,26 +17,24 @@ fn push_play(note: &mut Vec<u8>, written: &Notation, score: i32) -> Result<(), A
     push_number(note, score)
 }
 
-/// How many points more than its turn a best play would have given; a play that is taken back gives nothing.
-fn points_more(best: &BestPlay, taken_back: bool) -> i64 {
-    if taken_back {
-        i64::from(best.score)
-    } else {
-        best.more
-    }
-}
-
-/// Appends the best play, its score, and how many points more it would have given if that is above 0.
-fn push_best(note: &mut Vec<u8>, best: &BestPlay, taken_back: bool) -> Result<(), AllocError> {
-    note.extend_from_slice(b"best ")?;
-    push_play(note, &best.written, best.score)?;
-    let more = points_more(best, taken_back);
-    if more <= 0 {
+/// Appends how many points more than its turn a best play would have given, or that it would have given as many.
+fn push_more(note: &mut Vec<u8>, more: i64) -> Result<(), AllocError> {
+    if more < 0 {
         return Ok(());
+    }
+    if more == 0 {
+        return note.extend_from_slice(b", equal");
     }
     note.extend_from_slice(b", ")?;
     push_number(note, more)?;
     note.extend_from_slice(b" more")
+}
+
+/// Appends the best play, its score, and how many points more it would have given if it would not have given fewer.
+fn push_best(note: &mut Vec<u8>, best: &BestPlay) -> Result<(), AllocError> {
+    note.extend_from_slice(b"best ")?;
+    push_play(note, &best.written, best.score)?;
+    push_more(note, best.more)
 }
 
 /// Appends the next best plays, if there are any.
@@ -51,11 +49,11 @@ fn push_next(note: &mut Vec<u8>, plays: &[ScoredPlay]) -> Result<(), AllocError>
 }
 
 /// Appends what is said of the best play of an event.
-fn push_turn(note: &mut Vec<u8>, best: &TurnBest, taken_back: bool) -> Result<(), AllocError> {
+fn push_turn(note: &mut Vec<u8>, best: &TurnBest) -> Result<(), AllocError> {
     match best {
         TurnBest::NoTurn | TurnBest::NotShown => Ok(()),
         TurnBest::NoPlay => note.extend_from_slice(b"no play is possible"),
-        TurnBest::Best(best) => push_best(note, best, taken_back),
+        TurnBest::Best(best) => push_best(note, best),
     }
 }
 
@@ -92,7 +90,7 @@ pub fn push_note(
 ) -> Result<(), AllocError> {
     let start = notes.len();
     if let Some(best) = &row.best {
-        push_turn(notes, best, row.taken_back)?;
+        push_turn(notes, best)?;
     }
     push_next(notes, next)?;
     let is_first = notes.len() == start;

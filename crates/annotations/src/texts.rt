@@ -158,8 +158,8 @@ fn notes_in(alloc: Global, sheet: &SheetToAnnotate<'_>) -> Result<Vec<u8>, Alloc
     }
 }
 
-/// The text of a sheet with notes: after each turn its best play, with its score and how many points more it would have given, the next best ones if
-/// they are wanted, and the words of a play that are not in the list. After the faulty line a note says why it is refused, and there is none after
+/// The text of a sheet with notes: after each turn its best play, with its score and how many points more it would have given or that it would have
+/// given as many, the next best ones if they are wanted, and the words of a play that are not in the list. After the faulty line a note says why it is refused, and there is none after
 /// that.
 ///
 /// It fails only if memory runs out.

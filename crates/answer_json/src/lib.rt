@@ -12,6 +12,7 @@ mod names;
 mod plays;
 mod refusals;
 mod texts;
+mod unread;
 mod verdicts;
 
 pub use faults::FaultObject;
@@ -20,4 +21,5 @@ pub use names::{kind_name, number_of};
 pub use plays::{PlayFields, direction_of, play_fields};
 pub use refusals::{push_bad_record, push_checked, push_refusal, push_trouble};
 pub use texts::{rack_text, text_of, text_unless_empty, tiles_of};
+pub use unread::{UnreadObject, unread_objects};
 pub use verdicts::{VerdictFields, push_verdict, verdict_fields};

@@ -22,6 +22,7 @@ use exit_statuses::{Exit, Trouble, exit_of_line};
 use game_case::{Entry, archive_entry};
 use game_page::Maker;
 use lex_check::Checked;
+use lost_inputs::RunInputs;
 use name_texts::Encoding;
 use record_repairs::Repair;
 use ref_tiles::Rules;
@@ -29,6 +30,7 @@ use std::alloc::{AllocError, Global};
 use std::io::{self, BufReader, Read};
 use std::rt::{Files, Runtime};
 use std::str;
+use unread_lines::unread_lines;
 use watching::Reason;
 
 /// Judges the games of an archive, each by the settled verdict, and writes a line for each to standard output before it reads the next
@@ -156,13 +158,14 @@ fn archive_by<'r, 'a, R: Runtime + AllocGlobal, N: Names + Drop>(
 /// The pages of an archive, if they are requested.
 fn pages_of<'a, R: Runtime + AllocGlobal, F: Read + Drop, S: Read + Drop>(
     rt: &R,
-    folder: Option<&'a str>,
+    request: &Archive<'a>,
     given: &GivenFiles<'_, F, S>,
 ) -> Result<Option<Pages<'a>>, Trouble<'a>> {
-    let Some(folder) = folder else {
+    let Some(folder) = request.pages else {
         return Ok(None);
     };
-    let Ok(digests) = digests_of(given) else {
+    let (Ok(digests), Ok(inputs)) = (digests_of(given), RunInputs::without_games(rt, request))
+    else {
         return Err(Trouble::NoMemory);
     };
     let maker = Maker {
@@ -171,7 +174,7 @@ fn pages_of<'a, R: Runtime + AllocGlobal, F: Read + Drop, S: Read + Drop>(
         list: digests.list,
         rules: digests.rules,
     };
-    Ok(Some(Pages::open(rt, folder, maker)?))
+    Ok(Some(Pages::open(rt, folder, maker, inputs)?))
 }
 
 /// Judges the games of these names, one after the other.
@@ -181,7 +184,7 @@ fn go_through<'a, R: Runtime + AllocGlobal, F: Read + Drop, S: Read + Drop, N: N
     given: &GivenFiles<'_, F, S>,
     games: &mut Games<N>,
 ) -> Result<Exit, Trouble<'a>> {
-    let mut pages = pages_of(rt, request.pages, given)?;
+    let mut pages = pages_of(rt, request, given)?;
     let Games { run, names } = games;
     let mut name = Vec::new(rt.alloc());
     for _ in 0..u64::MAX {
@@ -341,14 +344,13 @@ fn found<'n, R: Runtime + AllocGlobal, F: Read + Drop>(
     let Some(text) = game.inner().front().whole() else {
         return Fields::unread(name, Unread::NoMemory);
     };
-    let encoding = Encoding::of(text);
-    match fields_with(rt.alloc(), rules, pair, repairs, name, &mut entry, encoding) {
+    match fields_with(rt.alloc(), rules, pair, repairs, name, &mut entry, text) {
         Ok(fields) => fields,
         Err(_) => Fields::unread(name, Unread::NoMemory),
     }
 }
 
-/// What the line of a game says, with its likely repair if repairs are requested.
+/// What the line of a game says by the text of its record, with its likely repair if repairs are requested.
 fn fields_with<'n>(
     alloc: Global,
     rules: &Rules,
@@ -356,22 +358,24 @@ fn fields_with<'n>(
     repairs: bool,
     name: &'n str,
     entry: &mut Entry,
-    encoding: Encoding,
+    text: &[u8],
 ) -> Result<Fields<'n>, AllocError> {
     let likely = likely_if(alloc, rules, pair, repairs, entry)?;
-    fields_of(alloc, repairs, name, entry, likely.as_ref(), encoding)
+    fields_of(alloc, repairs, name, entry, likely.as_ref(), text)
 }
 
-/// What the line of a game says, with the likely repair that was found if repairs are requested.
+/// What the line of a game says by the text of its record, with the likely repair that was found if repairs are requested.
 pub fn fields_of<'n>(
     alloc: Global,
     repairs: bool,
     name: &'n str,
     entry: &Entry,
     likely: Option<&Repair>,
-    encoding: Encoding,
+    text: &[u8],
 ) -> Result<Fields<'n>, AllocError> {
-    let mut fields = Fields::of_entry(alloc, name, entry, encoding)?;
+    let encoding = Encoding::of(text);
+    let unread = unread_lines(alloc, text)?.len();
+    let mut fields = Fields::of_entry(alloc, name, entry, encoding, unread)?;
     if repairs {
         fields.likely = Some(likely_fields(alloc, &entry.record, likely, encoding)?);
     }

@@ -2,7 +2,7 @@
 
 use crate::archiving::buffered;
 use crate::read_lines::{ArchiveLines, NextLine};
-use archive_lines::LineRead;
+use archive_lines::{LineRead, lead_of};
 use command_files::{open_source, shown, write_out};
 use exit_statuses::{Exit, Trouble};
 use game_page::{Index, IndexPlayer, IndexRow};
@@ -11,7 +11,7 @@ use std::io::BufRead;
 use std::rt::Runtime;
 
 /// Writes the index of the pages that lines of archives name to the file `out`, with a row for each line. If something is not a line of
-/// an archive, standard error says so, and `out` is not touched.
+/// an archive, or names a page outside the folder of the index, standard error says so, and `out` is not touched.
 pub fn index<'a, R: Runtime + AllocGlobal>(
     rt: &R,
     lines: &'a str,
@@ -29,7 +29,8 @@ pub fn index<'a, R: Runtime + AllocGlobal>(
     Ok(Exit::Fine)
 }
 
-/// The index of these lines. If one is not a line of an archive, standard error says so, and the answer is `None`.
+/// The index of these lines. If one is not a line of an archive, or if its page is outside the folder of the index, standard error says so, and the
+/// answer is `None`.
 fn index_of<'a, R: Runtime + AllocGlobal, B: BufRead + Drop>(
     rt: &R,
     lines: &mut ArchiveLines<'a, B>,
@@ -37,6 +38,10 @@ fn index_of<'a, R: Runtime + AllocGlobal, B: BufRead + Drop>(
     let mut index = Index::new(rt.alloc());
     for _ in 0..u64::MAX {
         let pushed = match lines.next_line(rt.alloc())? {
+            NextLine::Whole(line) if line.is_page_outside() => {
+                lines.tell_outside(rt);
+                return Ok(None);
+            }
             NextLine::Whole(line) => push_row(rt.alloc(), &mut index, &line),
             NextLine::End => break,
             NextLine::NoLine | NextLine::Part => {
@@ -56,6 +61,7 @@ fn push_row(alloc: Global, index: &mut Index, line: &LineRead) -> Result<(), All
     let row = IndexRow {
         game: line.name.as_str(),
         page: line.page_name(),
+        title: None,
         answer: line.verdict,
         line: line.line,
         why: text_of(match &line.ending {
@@ -63,14 +69,17 @@ fn push_row(alloc: Global, index: &mut Index, line: &LineRead) -> Result<(), All
             None => &line.fault,
         }),
         first: IndexPlayer {
-            nick: text_of(&line.player1),
+            name: text_of(&line.player1),
             total: line.total1,
         },
         second: IndexPlayer {
-            nick: text_of(&line.player2),
+            name: text_of(&line.player2),
             total: line.total2,
         },
+        lead: lead_of(line.total1, line.total2),
         unlisted: line.unlisted,
+        likely: text_of(&line.likely),
+        seems: None,
     };
     index.add(alloc, &row)
 }

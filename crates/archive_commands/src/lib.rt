@@ -9,6 +9,7 @@ mod names;
 mod pages;
 mod progress;
 mod read_lines;
+mod row_words;
 
 pub use archiving::archive;
 pub use indexing::index;

@@ -5,14 +5,15 @@ ghost use Rattle.game_case.specs.Explaining.{HasItsWalk};
 
 use crate::archiving::{fields_of, unread_by};
 use crate::likely::likely_if;
-use archive_lines::{Fields, PageField, Unread};
+use crate::row_words::RowWords;
+use archive_lines::{Fields, PageField, Unread, lead_of};
 use command_files::{has_page, unopened, write_whole_file};
 use devices::FromRead;
 use exit_statuses::Trouble;
 use game_case::{Case, open_case};
 use game_page::{Contents, Index, IndexPlayer, IndexRow, Maker, push_page, shown_of};
 use lex_check::Checked;
-use name_texts::Encoding;
+use lost_inputs::RunInputs;
 use page_names::push_page_name;
 use page_pieces::PageText;
 use page_words::{Sentences, sentences_of};
@@ -23,6 +24,7 @@ use std::fs;
 use std::io::{self, Read};
 use std::path::Path;
 use std::rt::Runtime;
+use whole_files::is_same_file;
 
 /// The file of the index in the folder.
 const INDEX: &str = "index.html";
@@ -32,8 +34,12 @@ const INDEX: &str = "index.html";
 pub struct Pages<'a> {
     folder: &'a str,
     maker: Maker,
+    /// What the run reads besides its games: no page is written over it.
+    inputs: RunInputs,
     /// The page of the game that is being judged. The games share its memory.
     page: PageText,
+    /// What the index says of that game in addition to its line.
+    words: RowWords,
     /// The index up to the last game that is done.
     index: Index,
 }
@@ -44,6 +50,7 @@ impl<'a> Pages<'a> {
         rt: &R,
         folder: &'a str,
         maker: Maker,
+        inputs: RunInputs,
     ) -> Result<Pages<'a>, Trouble<'a>> {
         match fs::create_dir_all(rt, folder) {
             Ok(()) => {}
@@ -52,7 +59,9 @@ impl<'a> Pages<'a> {
         Ok(Pages {
             folder,
             maker,
+            inputs,
             page: PageText::new(rt.alloc()),
+            words: RowWords::NONE,
             index: Index::new(rt.alloc()),
         })
     }
@@ -75,6 +84,10 @@ impl<'a> Pages<'a> {
         let Ok(likely) = likely_by(rt.alloc(), rules, pair, repairs, &mut case) else {
             return Fields::unread(name, Unread::NoMemory);
         };
+        let Ok(words) = RowWords::of(rt.alloc(), &case) else {
+            return Fields::unread(name, Unread::NoMemory);
+        };
+        self.words = words;
         let Ok(mut fields) = fields_in(rt.alloc(), repairs, name, &case, likely.as_ref()) else {
             return Fields::unread(name, Unread::NoMemory);
         };
@@ -117,6 +130,9 @@ impl<'a> Pages<'a> {
             push_page(&mut self.page, &shown, reason.as_slice(), likely.as_slice())?;
         }
         let path = path_in(alloc, self.folder, file.as_str())?;
+        if self.is_input(rt, name, path.as_str()) {
+            return Ok(PageField::CannotWrite);
+        }
         if put_page(rt, path.as_str(), self.page.as_slice())? {
             Ok(PageField::Written(file))
         } else {
@@ -124,11 +140,17 @@ impl<'a> Pages<'a> {
         }
     }
 
+    /// Whether the file of a path is the game of this name, or another input of the run.
+    fn is_input<R: Runtime>(&self, rt: &R, name: &str, path: &str) -> bool {
+        is_same_file(rt, name, path) || self.inputs.shown(rt, path).is_some()
+    }
+
     /// Adds the row of a game to the index. If there is no memory for it, the line of the game says so.
     pub fn add(&mut self, alloc: Global, fields: &mut Fields<'_>) {
-        if self.index.add(alloc, &row_of(fields)).is_err() {
+        if self.index.add(alloc, &row_of(fields, &self.words)).is_err() {
             fields.page = Some(PageField::NoMemory);
         }
+        self.words = RowWords::NONE;
         if fields.page.is_none() {
             fields.page = Some(PageField::Missing);
         }
@@ -176,34 +198,59 @@ fn fields_in<'n>(
     case: &Case,
     likely: Option<&Repair>,
 ) -> Result<Fields<'n>, AllocError> {
-    let encoding = Encoding::of(case.text.as_slice());
     match &case.read {
-        Ok(entry) => fields_of(alloc, repairs, name, entry, likely, encoding),
+        Ok(entry) => fields_of(alloc, repairs, name, entry, likely, case.text.as_slice()),
         Err(fault) => Ok(Fields::bad_record(name, fault)),
     }
 }
 
-/// What the index says of a game.
-fn row_of<'f>(fields: &'f Fields<'_>) -> IndexRow<'f> {
-    let fault = fields.fault.as_ref().map(|fault| fault.as_str());
+/// The text, if there is one.
+fn text_of(text: &Option<String>) -> Option<&str> {
+    text.as_ref().map(|text| text.as_str())
+}
+
+/// The full name of a player, or the nickname if there is none.
+fn name_of<'f>(full: &'f Option<String>, nick: &'f Option<String>) -> Option<&'f str> {
+    match full {
+        Some(full) => Some(full.as_str()),
+        None => text_of(nick),
+    }
+}
+
+/// What is said about the answer of a line: whether the game has ended, or the fault.
+fn why_of<'f>(fields: &'f Fields<'_>) -> Option<&'f str> {
+    match fields.ending {
+        Some(ending) => Some(ending.name()),
+        None => fields.fault.as_ref().map(|fault| fault.as_str()),
+    }
+}
+
+/// The likely repair of a line in words, if it has one.
+fn change_of<'f>(fields: &'f Fields<'_>) -> Option<&'f str> {
+    text_of(&fields.likely.as_ref()?.change)
+}
+
+/// What the index says of a game, by its line and the words that are said in addition.
+fn row_of<'f>(fields: &'f Fields<'_>, words: &'f RowWords) -> IndexRow<'f> {
     IndexRow {
         game: fields.name,
         page: fields.page.as_ref().and_then(|page| page.name()),
+        title: text_of(&words.title),
         answer: fields.verdict,
         line: fields.line,
-        why: match fields.ending {
-            Some(ending) => Some(ending.name()),
-            None => fault,
-        },
+        why: why_of(fields),
         first: IndexPlayer {
-            nick: fields.player1.as_ref().map(|nick| nick.as_str()),
+            name: name_of(&words.first, &fields.player1),
             total: fields.total1,
         },
         second: IndexPlayer {
-            nick: fields.player2.as_ref().map(|nick| nick.as_str()),
+            name: name_of(&words.second, &fields.player2),
             total: fields.total2,
         },
+        lead: lead_of(fields.total1, fields.total2),
         unlisted: fields.unlisted,
+        likely: change_of(fields),
+        seems: words.seems,
     }
 }
 

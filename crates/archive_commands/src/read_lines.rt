@@ -72,6 +72,14 @@ impl<'a, B: BufRead + Drop> ArchiveLines<'a, B> {
         ));
     }
 
+    /// Writes to standard error that the last line names a page outside the folder of the index.
+    pub fn tell_outside<R: Runtime>(&self, rt: &R) {
+        let (name, number) = (self.name, self.number);
+        let _ = rt.eprintln(format_args!(
+            "referee: {name} line {number} names a page outside the folder of the index"
+        ));
+    }
+
     /// Writes to standard error that the text ends with part of a line.
     pub fn tell_part<R: Runtime>(&self, rt: &R) {
         let (name, number) = (self.name, self.number);

@@ -13,10 +13,10 @@ IsReadBack = (f : Fields) → fields_read (joined (told f)) ≡ told f
 
 -- how many fields there are, with pages and without, and with repairs and without
 abbrev pub many_with : Option PageField → Option LikelyFields → ℕ
-many_with None None = 11
-many_with (Some page) None = 12
-many_with None (Some likely) = 13
-many_with (Some page) (Some likely) = 14
+many_with None None = 12
+many_with (Some page) None = 13
+many_with None (Some likely) = 14
+many_with (Some page) (Some likely) = 15
 
 abbrev pub HasSoMany : Type 0
 HasSoMany = (f : Fields) → length (fields_read (joined (told f))) ≡ many_with f.page f.likely

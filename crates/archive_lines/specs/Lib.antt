@@ -1,5 +1,6 @@
 pub mod Answers
 pub mod Faults
+pub mod Leads
 pub mod Players
 pub mod Pages
 pub mod Tabs

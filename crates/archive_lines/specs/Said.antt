@@ -17,8 +17,8 @@ use Rattle.archive_lines.specs.Answers.{answer_of, ending_in, unread_text}
 use Rattle.archive_lines.specs.Faults.{line_in, line_of_fault, fault_in, name_in, expected_in}
 use Rattle.archive_lines.specs.Players.{nick_of}
 
--- what the line of a game says of its entry
-pub record SaysEntry (name : Bor (List ℕ)) (entry : Entry) (encoding : Encoding) (f : Fields) : Type 0 where
+-- what the line of a game says of its entry, and of so many lines that are not read
+pub record SaysEntry (name : Bor (List ℕ)) (entry : Entry) (encoding : Encoding) (unread : ℕ) (f : Fields) : Type 0 where
   pub name_is : f.name ≡ name
   pub verdict : f.verdict ≡ answer_of entry.finding
   pub ending : f.ending ≡ ending_in entry.finding
@@ -34,6 +34,7 @@ pub record SaysEntry (name : Bor (List ℕ)) (entry : Entry) (encoding : Encodin
   pub likely : f.likely ≡ None
   pub fault_name : option_map cow_str_bytes f.fault_name ≡ name_in (fault_in entry.finding)
   pub expected : f.expected ≡ expected_in entry.finding
+  pub unread_lines : f.unread_lines ≡ Some unread
 
 -- a line that says no more than a verdict and a fault
 pub record IsBare (name : Bor (List ℕ)) (verdict : Answer) (line : Option ℕ) (fault : List ℕ) (fault_name : Option (List ℕ)) (f : Fields) : Type 0 where
@@ -52,6 +53,7 @@ pub record IsBare (name : Bor (List ℕ)) (verdict : Answer) (line : Option ℕ)
   pub likely : f.likely ≡ None
   pub name_of_fault : option_map cow_str_bytes f.fault_name ≡ fault_name
   pub expected : f.expected ≡ None
+  pub unread_lines : f.unread_lines ≡ None
 
 -- what it says of a file that was not read
 abbrev pub SaysUnread : Bor (List ℕ) → Unread → Fields → Type 0

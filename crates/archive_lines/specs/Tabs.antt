@@ -45,13 +45,17 @@ abbrev pub likely_told : Option LikelyFields → List (List ℕ)
 likely_told None = []
 likely_told (Some likely) = shown (option_map string_bytes likely.change) ∷ shown (option_map string_bytes likely.numbers_right) ∷ []
 
--- the fields that a line has only on request
-abbrev pub options_told : Option PageField → Option LikelyFields → List (List ℕ)
-options_told page likely = page_told page ++ likely_told likely
+-- how many lines are not read
+abbrev pub unread_told : Option ℕ → List (List ℕ)
+unread_told unread = shown (option_map decimal unread) ∷ []
+
+-- the fields after those that each line has: those that a line has only on request, and then how many lines are not read
+abbrev pub rest_told : Option PageField → Option LikelyFields → Option ℕ → List (List ℕ)
+rest_told page likely unread = page_told page ++ (likely_told likely ++ unread_told unread)
 
 -- the fields that a line says, in their order
 abbrev pub told : Fields → List (List ℕ)
-told f = f.name.now ∷ (verdict_told f ++ (record_told f ++ options_told f.page f.likely))
+told f = f.name.now ∷ (verdict_told f ++ (record_told f ++ rest_told f.page f.likely f.unread_lines))
 
 -- the line itself
 unfoldable pub tab_line : Fields → List ℕ

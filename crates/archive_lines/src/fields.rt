@@ -50,6 +50,8 @@ pub struct Fields<'a> {
     pub fault_name: Option<CowStr<'a, Global>>,
     /// The number that was expected instead of the wrong one. Only the JSON object has it.
     pub expected: Option<i32>,
+    /// How many lines of the record are not read although they look like events.
+    pub unread_lines: Option<usize>,
 }
 
 impl<'a> Fields<'a> {
@@ -79,6 +81,7 @@ impl<'a> Fields<'a> {
             likely: None,
             fault_name,
             expected: None,
+            unread_lines: None,
         }
     }
 
@@ -103,7 +106,7 @@ impl<'a> Fields<'a> {
         )
     }
 
-    /// What is said of the game of a record, whose nicknames are text by this encoding.
+    /// What is said of the game of a record, whose nicknames are text by this encoding, and of which so many lines are not read.
     ///
     /// # Errors
     ///
@@ -113,8 +116,9 @@ impl<'a> Fields<'a> {
         name: &'a str,
         entry: &Entry,
         encoding: Encoding,
+        unread: usize,
     ) -> Result<Fields<'a>, AllocError>
-        ensures { IfOk result (SaysEntry name.entry entry.now encoding) }
+        ensures { IfOk result (SaysEntry name.entry entry.now encoding unread) }
     {
         let events = entry.record.events.as_slice();
         let players = &entry.record.players;
@@ -136,6 +140,7 @@ impl<'a> Fields<'a> {
             likely: None,
             fault_name: owned(fault_name),
             expected: expected_in(entry.finding),
+            unread_lines: Some(unread),
         })
     }
 }

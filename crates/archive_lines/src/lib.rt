@@ -2,7 +2,7 @@
 //!
 //! [`Fields`] is what a line says. [`push_tab_line`] writes it as fields separated by tabs, [`push_json_line`] as a JSON object with the same fields
 //! by name. A line has the field of the page of its game only if pages are made, and the two fields of its likely repair only if repairs are looked
-//! for. [`law_of_tab_lines`] says that a line has exactly its fields, and [`LineRead`] is what its reader has.
+//! for. The last field says how many lines of the record are not read. [`law_of_tab_lines`] says that a line has exactly its fields, and [`LineRead`] is what its reader has.
 #![tactic(auto)]
 
 mod answers;
@@ -10,6 +10,7 @@ mod faults;
 mod fields;
 mod json_lines;
 mod laws;
+mod leads;
 mod likely;
 mod pages;
 mod players;
@@ -20,6 +21,7 @@ pub use answers::{Answer, Ending, Unread};
 pub use fields::Fields;
 pub use json_lines::push_json_line;
 pub use laws::law_of_tab_lines;
+pub use leads::{Lead, lead_of};
 pub use likely::LikelyFields;
 pub use pages::PageField;
 pub use reading::LineRead;

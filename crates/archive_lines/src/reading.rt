@@ -6,7 +6,8 @@ use std::alloc::{AllocError, Global};
 use std::str::{self, FromStr};
 use tab_lines::read_fields;
 
-/// The least number of fields that a line with tabs has. A page is one more, and a likely repair two more.
+/// The least number of fields that a line with tabs has: one of earlier versions has no number of lines that are not read. A page is one more, and a
+/// likely repair two more.
 const FIELDS: usize = 11;
 
 /// What a line of an archive says, as its reader has it: only the fields that name a game and its result.
@@ -34,6 +35,8 @@ pub struct LineRead {
     pub unlisted: Option<usize>,
     /// The page, or why there is none.
     pub page: Option<String>,
+    /// The likely repair, in words.
+    pub likely: Option<String>,
 }
 
 /// The same as the JSON object of a line has it.
@@ -52,6 +55,14 @@ struct ObjectRead {
     unlisted: Option<usize>,
     #[serde(default)]
     page: Option<String>,
+    #[serde(default)]
+    likely: Option<LikelyRead>,
+}
+
+/// What the object of a line says of a likely repair.
+#[derive(Drop, Deserialize)]
+struct LikelyRead {
+    change: Option<String>,
 }
 
 impl LineRead {
@@ -74,7 +85,7 @@ impl LineRead {
             return Ok(None);
         }
         let fields = read_fields(alloc, line)?;
-        if fields.len() < FIELDS || fields.len() > FIELDS + 3 {
+        if fields.len() < FIELDS || fields.len() > FIELDS + 4 {
             return Ok(None);
         }
         LineRead::of_fields(alloc, fields.as_slice())
@@ -97,6 +108,7 @@ impl LineRead {
             total2: numbers.total2,
             unlisted: numbers.unlisted,
             page: page_in(alloc, fields)?,
+            likely: likely_in(alloc, fields)?,
         }))
     }
 
@@ -124,7 +136,16 @@ impl LineRead {
             total2: object.total2,
             unlisted: object.unlisted,
             page: object.page,
+            likely: change_in(object.likely),
         })
+    }
+
+    /// Whether the line names a page outside the folder of the pages: its path begins with a slash, or has a part `..`.
+    pub fn is_page_outside(&self) -> bool {
+        match self.page_name() {
+            Some(page) => page.starts_with('/') || page.split('/').any(|part| part == ".."),
+            None => false,
+        }
     }
 
     /// The file of the page, if one is written: nothing else that the field may have ends in `.html`.
@@ -133,6 +154,14 @@ impl LineRead {
             Some(page) if page.as_str().ends_with(".html") => Some(page.as_str()),
             _ => None,
         }
+    }
+}
+
+/// The change of a likely repair, if there is one.
+fn change_in(likely: Option<LikelyRead>) -> Option<String> {
+    match likely {
+        Some(likely) => likely.change,
+        None => None,
     }
 }
 
@@ -179,13 +208,38 @@ fn shown_at(alloc: Global, fields: &[Vec<u8>], place: usize) -> Result<Option<St
     }
 }
 
-/// The field of the page, if a line has one: then it has an even number of fields.
+/// The field of the page, if a line has one: no other field has the name of a page, or why there is none.
 fn page_in(alloc: Global, fields: &[Vec<u8>]) -> Result<Option<String>, AllocError> {
-    if fields.len() % 2 == 0 {
-        shown_at(alloc, fields, FIELDS)
+    let text = text_at(fields, FIELDS);
+    if text.ends_with(".html") || text == "cannot write" || text == "no memory" {
+        Ok(Some(String::from_str(alloc, text)?))
     } else {
         Ok(None)
     }
+}
+
+/// Whether a field says how many of some numbers are right, such as `90 of 90`.
+fn is_share(text: &str) -> bool {
+    let mut words = text.split(' ');
+    let right = words.next();
+    let between = words.next();
+    let all = words.next();
+    match (right, between, all, words.next()) {
+        (Some(right), Some("of"), Some(all), None) => {
+            right.parse::<u64>().is_ok() && all.parse::<u64>().is_ok()
+        }
+        _ => false,
+    }
+}
+
+/// The likely repair, if a line has one: the field before the one that says how many numbers are right with it.
+fn likely_in(alloc: Global, fields: &[Vec<u8>]) -> Result<Option<String>, AllocError> {
+    for place in FIELDS + 1..fields.len() {
+        if is_share(text_at(fields, place)) {
+            return shown_at(alloc, fields, place - 1);
+        }
+    }
+    Ok(None)
 }
 
 /// A number, or none, that a field says.

@@ -5,7 +5,7 @@ ghost use Rattle.std.specs.Cow.{cow_str_bytes};
 ghost use Rattle.tab_lines.specs.Lines.{escaped};
 ghost use Rattle.archive_lines.specs.Answers.{ending_text};
 ghost use Rattle.archive_lines.specs.Pages.{page_text};
-ghost use Rattle.archive_lines.specs.Tabs.{shown, behind, verdict_told, record_told, page_told, likely_told, options_told, tab_line};
+ghost use Rattle.archive_lines.specs.Tabs.{shown, behind, verdict_told, record_told, page_told, likely_told, unread_told, rest_told, tab_line};
 
 use crate::answers::Ending;
 use crate::fields::Fields;
@@ -114,17 +114,33 @@ fn push_likely(line: &mut Vec<u8>, likely: &Option<LikelyFields>) -> Result<(), 
     }
 }
 
-/// Appends the fields that a line has only on request.
+/// Appends the field with the number of lines that are not read.
+fn push_unread(line: &mut Vec<u8>, unread: Option<usize>) -> Result<(), AllocError>
+    ensures { OnOk result (line.new.items ≡ line.old.items ++ behind (unread_told unread)) }
+{
+    push_known(line, unread)
+}
+
+/// Appends the fields of the likely repair, if repairs are looked for, and how many lines are not read.
 #[tactic(auto, using(crate::proofs::Joined::two_parts))]
-fn push_options(line: &mut Vec<u8>, fields: &Fields<'_>) -> Result<(), AllocError>
-    ensures { OnOk result (line.new.items ≡ line.old.items ++ behind (options_told fields.now.page fields.now.likely)) }
+fn push_end(line: &mut Vec<u8>, fields: &Fields<'_>) -> Result<(), AllocError>
+    ensures { OnOk result (line.new.items ≡ line.old.items ++ behind (likely_told fields.now.likely ++ unread_told fields.now.unread_lines)) }
+{
+    push_likely(line, &fields.likely)?;
+    push_unread(line, fields.unread_lines)
+}
+
+/// Appends the fields after those that each line has: those that a line has only on request, and how many lines are not read.
+#[tactic(auto, using(crate::proofs::Joined::two_parts))]
+fn push_rest(line: &mut Vec<u8>, fields: &Fields<'_>) -> Result<(), AllocError>
+    ensures { OnOk result (line.new.items ≡ line.old.items ++ behind (rest_told fields.now.page fields.now.likely fields.now.unread_lines)) }
 {
     push_page(line, &fields.page)?;
-    push_likely(line, &fields.likely)
+    push_end(line, fields)
 }
 
 /// Appends a line: its fields in their order with a tab between two, `-` for a missing one, and an LF. It has the field of the page only if pages
-/// are made, and those of the likely repair only if repairs are looked for. A tab, an LF and a backslash of a field are written `\t`, `\n` and
+/// are made, and those of the likely repair only if repairs are looked for; the last is how many lines are not read. A tab, an LF and a backslash of a field are written `\t`, `\n` and
 /// `\\`.
 ///
 /// # Errors
@@ -136,7 +152,7 @@ pub fn push_tab_line(line: &mut Vec<u8>, fields: &Fields<'_>) -> Result<(), Allo
     push_escaped(line, fields.name.as_bytes())?;
     push_verdict(line, fields)?;
     push_record(line, fields)?;
-    push_options(line, fields)?;
+    push_rest(line, fields)?;
     line.push(b'\n')?;
     Ok(())
 }

@@ -21,7 +21,8 @@ whole_facts (finding.Legal complete) = fact.Legal ∷ []
 whole_facts (finding.Illegal line why) = []
 whole_facts finding.Unsettled = fact.Unsettled ∷ []
 
--- after it, for a record whose events the rules allow: its plays that stand with words that are not in the list, and its turns that show no rack
+-- after it, for a record whose events the rules allow: its plays that stand with words that are not in the list, its turns that show no rack or a part
+-- of it, the last rack that it lacks, and whether the list may be another one
 abbrev pub NotesAre : Rules → (list : List (List ℕ)) → List Event → Finding → (notes : List Fact) → Type 0
 NotesAre rules list events finding.NoGame notes = notes ≡ []
 NotesAre rules list events (finding.Legal complete) notes = AreAllowed rules list events → AreNotes rules list events notes

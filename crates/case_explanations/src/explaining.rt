@@ -25,8 +25,8 @@ fn one_fact(alloc: Global, fact: Fact) -> Result<Vec<Fact>, AllocError>
     Ok(facts)
 }
 
-/// Adds which plays of a record stand with words that are not in the list, and which of its turns show no rack, if the rules allow every
-/// event.
+/// Adds which plays of a record stand with words that are not in the list, which of its turns show no rack or a part of it, which last rack
+/// it lacks, and whether the list may be another one, if the rules allow every event.
 #[tactic(auto, using(crate::proofs::Notes::noted, crate::proofs::Notes::refused))]
 fn push_all_notes(
     alloc: Global,

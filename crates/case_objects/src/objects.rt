@@ -15,6 +15,7 @@ use record_repairs::Repair;
 use ref_tiles::Rules;
 use repair_json::{RepairObject, single_object};
 use std::alloc::{AllocError, Global};
+use unread_lines::unread_lines;
 
 /// The line that is explained, as it is in the file.
 fn written_of<'t>(bytes: &'t [u8], told: &Option<Explanation<'_>>) -> Option<&'t [u8]> {
@@ -43,8 +44,9 @@ fn push_entry(
 ) -> Result<(), AllocError>
     requires { IsWalkOf rules.now list.now entry.now.record.events walk.now }
 {
+    let unread = unread_lines(alloc, case.text.as_slice())?;
     if entry.finding == Finding::NoGame {
-        return push_no_game(alloc, text);
+        return push_no_game(alloc, text, unread.as_slice());
     }
     let told = explain(alloc, rules, list, entry, walk, line)?;
     let written = written_of(case.text.as_slice(), &told);
@@ -56,6 +58,7 @@ fn push_entry(
         written,
         told.as_ref(),
         likely,
+        unread.as_slice(),
     )
 }
 

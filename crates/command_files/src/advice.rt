@@ -4,9 +4,10 @@ use crate::sources::shown;
 use file_kinds::{FileKind, has_events};
 use gcg_read::{ReadFault, Why, read};
 use name_texts::Encoding;
-use record_sentences::{push_missing, push_record_fault};
+use record_sentences::{MOST_NAMED, other_faults, push_missing, push_record_fault};
 use std::alloc::{AllocError, Global};
 use std::rt::Runtime;
+use unread_lines::unread_lines;
 use watching::Front;
 
 /// Whether the text that was read is a record.
@@ -27,18 +28,35 @@ pub fn advise_no_game<R: Runtime>(rt: &R, name: &str, game: &Front) {
     }
 }
 
-/// Says what is wrong with the line of the first fault of the text that was read.
-pub fn advise_bad_record<R: Runtime + AllocGlobal>(rt: &R, name: &str, game: &Front) {
+/// Says which lines of the text that was read are not read although they look like events: the first of them one by one.
+pub fn advise_unread<R: Runtime + AllocGlobal>(rt: &R, name: &str, game: &Front) {
     let Some(text) = game.whole() else {
         return;
     };
-    let Err(fault) = read(rt.alloc(), text) else {
-        return;
-    };
-    let Ok(sentence) = sentence_of(rt.alloc(), text, fault) else {
+    let Ok(lines) = unread_lines(rt.alloc(), text) else {
         return;
     };
     let name = shown(name);
+    for unread in lines.as_slice().iter().take(MOST_NAMED) {
+        let (line, why) = (unread.line, unread.why);
+        let _ = rt.eprintln(format_args!("referee: {name}: line {line} is not read: {why}"));
+    }
+    advise_more(rt, name, "lines that are not read", lines.len());
+}
+
+/// Says how many more there are than those that are named one by one, if there are more.
+fn advise_more<R: Runtime>(rt: &R, name: &str, what: &str, many: usize) {
+    let more = many.saturating_sub(MOST_NAMED);
+    if more > 0 {
+        let _ = rt.eprintln(format_args!("referee: {name}: more {what}: {more}"));
+    }
+}
+
+/// Says what is wrong with a line of a text, by its fault.
+fn advise_fault<R: Runtime + AllocGlobal>(rt: &R, name: &str, text: &[u8], fault: ReadFault) {
+    let Ok(sentence) = sentence_of(rt.alloc(), text, fault) else {
+        return;
+    };
     let line = fault.line;
     let _ = match line {
         0 => rt.eprintln(format_args!("referee: {name}: {sentence}")),
@@ -46,9 +64,33 @@ pub fn advise_bad_record<R: Runtime + AllocGlobal>(rt: &R, name: &str, game: &Fr
     };
 }
 
+/// Says what is wrong with the line of the first fault of the text that was read, and with its other lines that begin like events and are none.
+pub fn advise_bad_record<R: Runtime + AllocGlobal>(rt: &R, name: &str, game: &Front) {
+    let Some(text) = game.whole() else {
+        return;
+    };
+    let Err(fault) = read(rt.alloc(), text) else {
+        return;
+    };
+    let name = shown(name);
+    advise_fault(rt, name, text, fault);
+    let Ok(others) = other_faults(rt.alloc(), text, fault) else {
+        return;
+    };
+    for other in others.as_slice().iter().take(MOST_NAMED) {
+        advise_fault(rt, name, text, *other);
+    }
+    advise_more(
+        rt,
+        name,
+        "lines that begin with > and are no events",
+        others.len(),
+    );
+}
+
 /// Appends what a file seems to be, if it is not a text of lines.
 fn push_kind(sentence: &mut Vec<u8>, kind: FileKind) -> Result<(), AllocError> {
-    if matches!(kind, FileKind::Other | FileKind::Indented) {
+    if matches!(kind, FileKind::Other | FileKind::Indented | FileKind::Words) {
         return Ok(());
     }
     sentence.extend_from_slice(b" (")?;

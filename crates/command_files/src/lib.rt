@@ -9,10 +9,11 @@ mod files;
 mod folders;
 mod inputs;
 mod objects;
+mod racks;
 mod sources;
 mod telling;
 
-pub use advice::{advise_bad_record, advise_no_game, is_record};
+pub use advice::{advise_bad_record, advise_no_game, advise_unread, is_record};
 pub use cases::{NO_GAME, has_no_event, has_page};
 pub use files::{
     InputFile, Outlet, STANDARD_OUTPUT, UsedOutput, end_out, given_up, open, open_out, shown_out,
@@ -25,7 +26,9 @@ pub use inputs::{
     open_inputs, open_lexicon, open_rules, refuse, rules_front, write, write_beside,
 };
 pub use objects::{refuse_in_json, told_in_json};
+pub use racks::rack_in_capitals;
 pub use sources::{
     SheetFile, Source, Words, open_sheet, open_source, open_words, sheet_of, shown, tell_others,
+    unread_in,
 };
 pub use telling::{give_hint, repeat_fault};

@@ -1,5 +1,6 @@
 pub mod Telling
 pub mod Plays
+pub mod Because
 pub mod Numbers
 pub mod Places
 pub mod RackLaws

@@ -1,5 +1,5 @@
 -- The right score and the right total of an event that is refused for one of them.
-use Rattle.std.proofs.Common.{◌≡◌, ℕ, ℤ, Bool, true, false, not, List, Option, Some, None, refl, sym, ap, ◌∙◌}
+use Rattle.std.proofs.Common.{◌≡◌, ◌≢◌, ℕ, ℤ, Bool, true, false, not, List, Option, Some, None, refl, sym, ap, ◌∙◌}
 use Rattle.std.specs.Prelude.{◌+ℤ◌, ◌-ℤ◌}
 use Rattle.std.specs.Option.{option_or}
 use Rattle.std.specs.Ordering.{int_eq}
@@ -20,6 +20,7 @@ use Rattle.game_sheets.proofs.Shapes as shapes
 use Rattle.game_sheets.proofs.Numbers.{numbers_told, total_told as sum_told}
 use Rattle.game_sheets.specs.Corrections.{right_number}
 use Rattle.event_facts.specs.Facts.{withdrawn_score, last_rack_score, right_score}
+use Rattle.event_facts.proofs.Because.{score_differs}
 
 of_withdrawn : (latest : Latest) → withdrawn_score latest ≡ shapes.withdrawn_score latest
 of_withdrawn (played p) = refl
@@ -103,10 +104,18 @@ left_own had score right written is lacks =
 pub left_one : (had own score right written : ℤ) → right ≡ had +ℤ own → score ≡ right -ℤ written → written +ℤ score ≡ had +ℤ own
 left_one had own score right written is lacks = back right written score lacks ∙ is
 
+-- two numbers that differ, as they are shown
+pub unlike : (right shown written told : ℤ) → written ≢ right → shown ≡ right → told ≡ written → shown ≢ told
+unlike right shown written told wrong same own = λ one. wrong (sym own ∙ sym one ∙ same)
+
 -- the right score and the written one
 pub scores_told : (rules : Rules) (list : List (List ℕ)) (s : State) (e : Event) (right written shown told : ℤ) → fault_in rules list s e ≡ Some (fault.WrongScore right)
-    → shown ≡ right → told ≡ written → written ≡ e.score → (right_score rules s e.kind ≡ Some shown) × (told ≡ e.score)
-scores_told rules list s e right written shown told fails same own is = (score_told rules list s e right fails ∙ ap Some (sym same), own ∙ is)
+    → shown ≡ right → told ≡ written → written ≡ e.score → (right_score rules s e.kind ≡ Some shown) × (told ≡ e.score) × (shown ≢ told)
+scores_told rules list s e right written shown told fails same own is = (
+  score_told rules list s e right fails ∙ ap Some (sym same),
+  own ∙ is,
+  unlike right shown e.score told (score_differs rules list s e right fails) same (own ∙ is),
+)
 
 -- the sum of what is shown
 pub sum_shown : (right had score shown shown_had shown_score : ℤ) → right ≡ had +ℤ score → shown ≡ right → shown_had ≡ had → shown_score ≡ score → shown ≡ shown_had +ℤ shown_score

@@ -1,6 +1,6 @@
 -- What is true of an event in its place: for each fact, what its numbers, squares, players and lines are.
-use Rattle.std.specs.Prelude.{◌≡◌, ℕ, ℤ, pos, neg_ℤ, ◌+◌, ◌-◌, ◌*◌, ◌+ℤ◌, ◌<◌, ◌==◌, Bool, true, false, List, All, Contains, length, sum, map, take, reverse, slice_get, Option, Some, None, is_some, if◌then◌else◌}
-use Rattle.std.specs.List.{range_with_len}
+use Rattle.std.specs.Prelude.{◌≡◌, ◌≢◌, ◌⊎◌, ℕ, ℤ, pos, neg_ℤ, ◌+◌, ◌-◌, ◌*◌, ◌+ℤ◌, ◌<◌, ◌==◌, Bool, true, false, List, All, Contains, length, sum, map, take, reverse, slice_get, Option, Some, None, is_some, if◌then◌else◌}
+use Rattle.std.specs.List.{range_with_len, list_all, list_any}
 use Rattle.ref_tiles.specs.declared.symbols.Symbol.{Symbol}
 use Rattle.ref_tiles.specs.declared.symbols.Symbol.TheVariants as symbol
 use Rattle.ref_tiles.specs.declared.rulebook.Rules.{Rules}
@@ -17,10 +17,11 @@ use Rattle.gcg_read.specs.declared.events.EventKind.{EventKind}
 use Rattle.gcg_read.specs.declared.events.EventKind.TheVariants as kind
 use Rattle.gcg_read.specs.Players.{same_seat, other_seat}
 use Rattle.game_turns.specs.Seats.{side_of}
-use Rattle.game_turns.specs.Tallies.{State, Latest, played, taken_back, is_play, is_pass, is_time}
+use Rattle.lex_list.specs.Words.{is_listed}
+use Rattle.game_turns.specs.Tallies.{State, Latest, played, taken_back, is_play, is_pass, is_time, is_last_rack}
 use Rattle.game_turns.specs.Tallies as tallies
 use Rattle.game_turns.specs.LatestEvents.{latest_words}
-use Rattle.game_turns.specs.Checks.{play_fault, text_score, points_in, total_after, listed_in}
+use Rattle.game_turns.specs.Checks.{play_fault, text_score, points_in, total_after, listed_in, is_penalty}
 use Rattle.game_facts.specs.Spots.{scores_at}
 use Rattle.game_facts.specs.Texts.{new_tiles, IsFirstMisfit}
 use Rattle.game_facts.specs.Totals.{latest_with}
@@ -28,7 +29,7 @@ use Rattle.event_facts.specs.declared.facts.Fact.{Fact}
 use Rattle.event_facts.specs.declared.facts.Fact.TheVariants as fact
 use Rattle.event_facts.specs.declared.facts.Spelled.{Spelled}
 use Rattle.event_facts.specs.Moments.{Moment, last_event}
-use Rattle.event_facts.specs.Elsewhere.{places}
+use Rattle.event_facts.specs.Elsewhere.{stands_at, places}
 use Rattle.event_facts.specs.Readings.{IsNotOnRack, IsSwapped, IsMisread}
 use Rattle.event_facts.specs.Orders.{StandsTwice, AreTheOtherWay, IsMissing, IsOthers}
 
@@ -52,6 +53,10 @@ is_exchange other = false
 abbrev pub is_withdrawal : EventKind → Bool
 is_withdrawal kind.Withdraw = true
 is_withdrawal other = false
+
+abbrev pub is_challenge : EventKind → Bool
+is_challenge kind.Challenge = true
+is_challenge other = false
 
 -- the number of tiles that an event exchanges
 abbrev pub exchanged : EventKind → ℕ
@@ -90,9 +95,9 @@ right_score rules s kind.Challenge = None
 right_score rules s kind.Time = None
 right_score rules s (kind.LastRack tiles) = Some (last_rack_score (points_in rules tiles) s.out)
 
--- the right score of the event, and the one that is written
+-- the right score of the event, and the one that is written in its place
 abbrev pub AreScores : Moment → (right written : ℤ) → Type 0
-AreScores m right written = (right_score m.rules m.before m.event.kind ≡ Some right) × (written ≡ m.event.score)
+AreScores m right written = (right_score m.rules m.before m.event.kind ≡ Some right) × (written ≡ m.event.score) × (right ≢ written)
 
 -- the line of a penalty for time of a player
 pub record IsTimeOf (events : List Event) (player : Seat) (line : ℕ) : Type 0 where
@@ -120,6 +125,13 @@ pub record AreWordsBefore (m : Moment) (line : ℕ) (words : List Spelled) : Typ
   pub last : last_event m.past ≡ Some latest
   pub on_line : latest.line ≡ line
   pub words_are : letters_in words ≡ latest_words m.before.latest
+
+-- each of some words is in the list, and none of them is
+abbrev pub AreListed : (list : List (List ℕ)) → List Spelled → Type 0
+AreListed list words = list_all (is_listed list) (letters_in words) ≡ true
+
+abbrev pub AreUnlisted : (list : List (List ℕ)) → List Spelled → Type 0
+AreUnlisted list words = list_any (is_listed list) (letters_in words) ≡ false
 
 -- the event before is a play on a line, by the opponent of the player of the event
 pub record IsOthersPlay (m : Moment) (line : ℕ) (player other : Seat) : Type 0 where
@@ -158,22 +170,23 @@ IsOtherLetter m at dir word square byte shown =
 
 -- What is true of an event in its place, fact by fact. Facts about a record as a whole and about racks are defined elsewhere.
 abbrev pub IsTrue : Moment → Fact → Type 0
-IsTrue m (fact.OthersTurn player other) = (player ≡ m.event.player) × (other ≡ other_seat player)
+IsTrue m (fact.OthersTurn player other) = (player ≡ m.event.player) × (other ≡ other_seat player) × (m.before.mover ≡ Some other)
 IsTrue m (fact.StandsTwice line) = StandsTwice m line
 IsTrue m (fact.WrongWay line next) = AreTheOtherWay m line next
 IsTrue m (fact.Missing player score before after) = IsMissing m player score before after
 IsTrue m (fact.AllowedFor other) = IsOthers m other
-IsTrue m (fact.OthersLine player out) = (player ≡ m.event.player) × (m.before.out ≡ Some out)
+IsTrue m (fact.OthersLine player out) =
+    (is_last_rack m.event.kind ≡ true) × (player ≡ m.event.player) × (m.before.out ≡ Some out) × (same_seat out player ≡ false)
 IsTrue m fact.Complete = m.before.complete ≡ true
-IsTrue m (fact.Out out holder) = (m.before.out ≡ Some out) × (holder ≡ other_seat out)
-IsTrue m (fact.RackLost player holder) = ((side_of m.before.sides player).ended ≡ true) × (holder ≡ other_seat player)
-IsTrue m (fact.NoRackDue limit turns) = (limit ≡ m.rules.zero_limit) × (turns ≡ m.before.zero_run)
+IsTrue m (fact.Out out holder) = (m.before.complete ≡ false) × (m.before.out ≡ Some out) × (holder ≡ other_seat out)
+IsTrue m (fact.RackLost player holder) = (m.before.complete ≡ false) × ((side_of m.before.sides player).ended ≡ true) × (holder ≡ other_seat player)
+IsTrue m (fact.NoRackDue limit turns) = (limit ≡ m.rules.zero_limit) × (turns ≡ m.before.zero_run) × (m.before.out ≡ None) × (turns < limit)
 IsTrue m (fact.LeavesBoard at dir squares room) =
     OfPlay m.event.kind (λ a d word. (at ≡ a) × (dir ≡ d) × (squares ≡ length word) × (place_of dir at + room ≡ 15) × (room < squares))
 IsTrue m (fact.DotOnEmpty square) = OfPlay m.event.kind (λ at dir word. IsBareDot m at dir word square)
 IsTrue m (fact.OtherLetter square written shown) = OfPlay m.event.kind (λ at dir word. IsOtherLetter m at dir word square written shown)
 IsTrue m fact.NoNewTile = OfPlay m.event.kind (λ at dir word. play_fault m.before.board dir at word ≡ Some play.NoNewTile)
-IsTrue m (fact.ManyTiles tiles) = OfPlay m.event.kind (λ at dir word. new_tiles m.before.board dir at word ≡ Some tiles)
+IsTrue m (fact.ManyTiles tiles) = OfPlay m.event.kind (λ at dir word. (new_tiles m.before.board dir at word ≡ Some tiles) × (7 < tiles))
 IsTrue m (fact.TileBefore square letter) =
     OfPlay m.event.kind (λ at dir word. (0 < place_of dir at) × (square ≡ square_at dir (line_of dir at) (place_of dir at - 1)) × Shows m square letter)
 IsTrue m (fact.TileAfter square letter) =
@@ -191,20 +204,24 @@ IsTrue m (fact.LastRackScore player is_doubled tiles right written) =
 IsTrue m (fact.OtherScore right written) = AreScores m right written
 IsTrue m (fact.ElsewhereScore written spots others) =
     OfPlay m.event.kind (λ at dir word. (written ≡ m.event.score) × (spots.items ≡ take 3 (places m word)) × (others ≡ length (places m word) - 3)
-    × All (λ spot. scores_at m.rules m.before.board word written spot ≡ true) spots.items)
+    × All (λ spot. scores_at m.rules m.before.board word written spot ≡ true) spots.items × All (λ spot. stands_at m word spot ≡ true) spots.items)
+IsTrue m (fact.TotalFits score total) =
+    (right_score m.rules m.before m.event.kind ≡ Some score) × (total ≡ m.event.total) × (total ≡ (side_of m.before.sides m.event.player).total +ℤ score)
 IsTrue m (fact.AsBlank square letter read score) = OfPlay m.event.kind (λ at dir word. IsSwapped m at dir word square letter read score)
 IsTrue m (fact.NotOnRack which many has rack) = OfPlay m.event.kind (λ at dir word. IsNotOnRack m at dir word which many has rack)
 IsTrue m (fact.Misread square letter read words score written) =
     OfPlay m.event.kind (λ at dir word. IsMisread m at dir word square letter read (letters_in words.items) score written)
 IsTrue m (fact.WrongTotal player had score right written) =
     (player ≡ m.event.player) × (had ≡ (side_of m.before.sides player).total) × (score ≡ m.event.score) × (right ≡ had +ℤ score) × (written ≡ m.event.total)
+    × (right ≢ written)
 IsTrue m fact.LeavesOutOwn = m.event.total ≡ (side_of m.before.sides m.event.player).total
 IsTrue m (fact.LeavesOut line score) =
     (latest_with m.event.player score (reverse m.past) ≡ Some line) × (m.event.total +ℤ score ≡ total_after m.before m.event)
-IsTrue m (fact.TimeStep step written) = (step ≡ m.rules.time_step) × (written ≡ m.event.score)
+IsTrue m (fact.TimeStep step written) =
+    (is_time m.event.kind ≡ true) × (step ≡ m.rules.time_step) × (written ≡ m.event.score) × (is_penalty step written ≡ false)
 IsTrue m (fact.SecondTime player line) = (player ≡ m.event.player) × IsTimeOf m.past player line
-IsTrue m (fact.PlayStands line words) = AreWordsBefore m line words.items
-IsTrue m (fact.NoWordListed line words) = AreWordsBefore m line words.items
+IsTrue m (fact.PlayStands line words) = (is_withdrawal m.event.kind ≡ true) × AreWordsBefore m line words.items × AreListed m.list words.items
+IsTrue m (fact.NoWordListed line words) = (is_challenge m.event.kind ≡ true) × AreWordsBefore m line words.items × AreUnlisted m.list words.items
 IsTrue m (fact.OthersPlay line player other) = IsOthersPlay m line player other
 IsTrue m (fact.OthersBonus line player other) = IsOthersPlay m line player other
 IsTrue m (fact.NothingToTakeBack is_first) = HasNoPlayBefore m is_first
@@ -213,10 +230,13 @@ IsTrue m (fact.Bonus unit listed amounts written) =
     (unit ≡ m.rules.challenge_unit) × (listed ≡ listed_in m.list (latest_words m.before.latest))
     × (amounts.items ≡ map (λ n. unit * n) (range_with_len 1 listed)) × (written ≡ m.event.score)
 IsTrue m (fact.TooManyUsed player used has) =
-    (player ≡ m.event.player) × (has ≡ (side_of m.before.sides player).rack) × OfPlay m.event.kind (λ at dir word. new_tiles m.before.board dir at word ≡ Some used)
-IsTrue m (fact.ExchangeRefused bag least) = (bag ≡ m.before.bag) × (least ≡ m.rules.exchange_min)
+    (player ≡ m.event.player) × (has ≡ (side_of m.before.sides player).rack)
+    × OfPlay m.event.kind (λ at dir word. (new_tiles m.before.board dir at word ≡ Some used) × (has < used))
+IsTrue m (fact.ExchangeRefused bag least) =
+    (is_exchange m.event.kind ≡ true) × (bag ≡ m.before.bag) × (least ≡ m.rules.exchange_min) × (bag < least)
 IsTrue m (fact.ExchangeSize tiles player has bag) =
-    (tiles ≡ exchanged m.event.kind) × (player ≡ m.event.player) × (has ≡ (side_of m.before.sides player).rack) × (bag ≡ m.before.bag)
+    (is_exchange m.event.kind ≡ true) × (tiles ≡ exchanged m.event.kind) × (player ≡ m.event.player) × (has ≡ (side_of m.before.sides player).rack)
+    × (bag ≡ m.before.bag) × ((has < tiles) ⊎ (bag < tiles))
 IsTrue m (fact.LastRackSize shown holder has) =
-    (holder ≡ holder_at m) × (has ≡ (side_of m.before.sides holder).rack) × OfLastRack m.event.kind (λ tiles. shown ≡ sum tiles)
+    (holder ≡ holder_at m) × (has ≡ (side_of m.before.sides holder).rack) × OfLastRack m.event.kind (λ tiles. (shown ≡ sum tiles) × (shown ≢ has))
 IsTrue m other = ⊥

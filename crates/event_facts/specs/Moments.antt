@@ -2,6 +2,8 @@
 use Rattle.std.specs.Prelude.{◌≡◌, ℕ, ◌+◌, ◌-◌, List, length, take, drop, slice_get, Option, Some}
 use Rattle.ref_tiles.specs.declared.rulebook.Rules.{Rules}
 use Rattle.gcg_read.specs.declared.events.Event.{Event}
+use Rattle.game_turns.specs.declared.faults.RuleFault.{RuleFault}
+use Rattle.game_turns.specs.Checks.{fault_in}
 use Rattle.game_turns.specs.Machines.{state_of}
 use Rattle.game_turns.specs.Tallies.{State, tally_at}
 use Rattle.event_facts.specs.declared.scenes.Scene.{Scene}
@@ -23,6 +25,10 @@ last_event events = slice_get events (length events - 1)
 abbrev pub moment_of : Scene → Moment
 moment_of scene =
     record { rules = scene.rules.now; list = scene.list.now; past = scene.past.now; event = scene.event.now; later = scene.later.now; before = state_of scene.machine.now }
+
+-- the rules refuse the event for this
+abbrev pub IsRefusedFor : Moment → RuleFault → Type 0
+IsRefusedFor m why = fault_in m.rules m.list m.before m.event ≡ Some why
 
 -- the moment of the event at a place of a record, counted from 0: the state is the tally there
 pub record IsMomentAt (rules : Rules) (list : List (List ℕ)) (events : List Event) (place : ℕ) (m : Moment) : Type 0 where

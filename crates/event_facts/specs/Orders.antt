@@ -5,7 +5,7 @@ use Rattle.gcg_read.specs.declared.events.Event.{Event}
 use Rattle.gcg_read.specs.Players.{same_seat, other_seat}
 use Rattle.game_turns.specs.Seats.{side_of}
 use Rattle.game_turns.specs.Checks.{total_after}
-use Rattle.game_turns.specs.Places.{AreAllowedTo}
+use Rattle.game_turns.specs.Places.{AreAllowed, AreAllowedTo}
 use Rattle.event_facts.specs.Moments.{Moment, last_event}
 
 -- the event before says the same, on its own line
@@ -15,20 +15,21 @@ pub record StandsTwice (m : Moment) (line : ℕ) : Type 0 where
   pub on_line : line ≡ latest.line
   pub same : record latest { line = m.event.line } ≡ m.event
 
--- with the event and the next one interchanged, the rules allow both
+-- with the event and the next one interchanged, the rules allow every event of the record
 pub record AreTheOtherWay (m : Moment) (line next : ℕ) : Type 0 where
   pub other : Event
   pub behind : slice_get m.later 0 ≡ Some other
   pub own : line ≡ m.event.line
   pub on_line : next ≡ other.line
-  pub allowed : AreAllowedTo m.rules m.list (m.past ++ other ∷ m.event ∷ drop 1 m.later) (length m.past + 2)
+  pub allowed : AreAllowed m.rules m.list (m.past ++ other ∷ m.event ∷ drop 1 m.later)
 
 -- an event of a player
 abbrev pub is_of : Seat → Event → Bool
 is_of player e = same_seat e.player player
 
 -- The total of the event is right, and the other player's next total is `score` more than what that player had plus the score on
--- that line: as if a line of the other player with these points were missing, after the line before and before that of the event.
+-- that line: as if a line of the other player with these points were missing, after the line before and before that of the event. No
+-- points are those of a pass or of an exchange.
 pub record IsMissing (m : Moment) (player : Seat) (score : ℤ) (before after : ℕ) : Type 0 where
   pub other : player ≡ other_seat m.event.player
   pub right : m.event.total ≡ total_after m.before m.event

@@ -1,5 +1,5 @@
 -- What is true of racks that cannot be dealt, by the steps of a game.
-use Rattle.std.specs.Prelude.{◌≡◌, ◌⊎◌, ℕ, ◌+◌, ◌-◌, ◌<◌, ◌==◌, ◌&&◌, ◌||◌, not, Bool, true, List, [], ◌∷◌, ◌++◌, sum, take, reverse, slice_get, Option, Some, None, IfSome, if◌then◌else◌}
+use Rattle.std.specs.Prelude.{◌≡◌, ◌⊎◌, ℕ, ◌+◌, ◌-◌, ◌<◌, ◌==◌, ◌&&◌, ◌||◌, not, Bool, true, List, [], ◌∷◌, ◌++◌, length, sum, take, reverse, slice_get, Option, Some, None, IfSome, if◌then◌else◌}
 use Rattle.std.specs.List.{flat_map, list_any}
 use Rattle.ref_tiles.specs.declared.rulebook.Rules.{Rules}
 use Rattle.ref_tiles.specs.declared.kinds.Kind.{Kind}
@@ -90,6 +90,32 @@ pub record IsTooBig (steps : List Step) (place : ℕ) (player : Seat) (size : �
   pub shown : joined tiles (gone player (reverse (take place steps))) ≡ low_at player step (reverse (take place steps))
   pub adds_up : tiles ≡ together no_tiles lines
   pub more : size < sum tiles
+
+-- What some lines leave on a rack after the last of them, if it had these tiles before the first.
+abbrev pub left_after : (known : List ℕ) → List RackLine → List ℕ
+left_after known [] = known
+left_after known (l ∷ lines) = left_after (without (greater known l.shown) (left_by l.leaves)) lines
+
+-- the last of some lines
+abbrev pub last_line : List RackLine → Option RackLine
+last_line lines = slice_get lines (length lines - 1)
+
+-- The line of the step shows the whole rack, and fewer tiles of a kind than the lines before it leave there.
+pub record IsLeftOver (steps : List Step) (place : ℕ) (player : Seat) (before : ℕ) (left : List ℕ) (after : ℕ) (kind : Kind) (has had : ℕ) : Type 0 where
+  pub step : Step
+  pub there : slice_get steps place ≡ Some step
+  pub of : player ≡ holder_of step
+  pub latest : RackLine
+  pub last : last_line (rack_lines player (reverse (take place steps))) ≡ Some latest
+  pub on_line : before ≡ latest.line
+  pub leaves : left ≡ left_after no_tiles (rack_lines player (reverse (take place steps)))
+  pub on_next : after ≡ step.line
+  pub shown : List ℕ
+  pub shows : needed player step ≡ Some shown
+  pub whole : sum shown ≡ size_of step player
+  pub of_kind : has ≡ count_of shown kind
+  pub of_left : had ≡ count_of left kind
+  pub fewer : has < had
 
 -- ---- what the lines show of a kind of tile
 
@@ -216,11 +242,13 @@ pub record IsDealtTo (rules : Rules) (steps : List Step) (place line : ℕ) : Ty
   pub racks : List Held
   pub fit : Fits rules (take place steps) racks
 
--- what is true of the racks up to the step at a place; if no deal gives them, the clash is true if there is one
+-- What is true of the racks up to the step at a place. Where it says that no deal gives them, there is none, and a clash that it names is one.
 abbrev pub IsRackTrue : Rules → List Step → (place : ℕ) → Fact → Type 0
 IsRackTrue rules steps place (fact.RackTooBig player size tiles lines) = IsTooBig steps place player size tiles lines.items
+IsRackTrue rules steps place (fact.LeftOver player before left after kind has had) = IsLeftOver steps place player before left after kind has had
 IsRackTrue rules steps place (fact.TilesShort kind all many laid first second lines) = IsShort rules steps place kind all many laid first second lines.items
 IsRackTrue rules steps place (fact.DealtTo line) = IsDealtTo rules steps place line
 IsRackTrue rules steps place (fact.NoDeal clash exchanges) =
-    AreExchanges steps place exchanges.items × IfSome clash (λ lines. IsClash rules (take (place + 1) steps) lines.items)
+    HasNoDeal rules (take (place + 1) steps) × AreExchanges steps place exchanges.items
+    × IfSome clash (λ lines. IsClash rules (take (place + 1) steps) lines.items)
 IsRackTrue rules steps place other = ⊥

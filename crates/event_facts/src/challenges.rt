@@ -3,7 +3,8 @@ ghost use Rattle.std.specs.Prelude.{◌≡◌, ◌≤◌, ◌*◌, length, map, 
 ghost use Rattle.std.specs.List.{range_with_len};
 ghost use Rattle.game_turns.specs.Checks.{listed_in};
 ghost use Rattle.ref_play.specs.Words.{items_of};
-ghost use Rattle.event_facts.specs.Moments.{moment_of};
+ghost use Rattle.game_turns.specs.declared.faults.RuleFault.TheVariants as fault;
+ghost use Rattle.event_facts.specs.Moments.{moment_of, IsRefusedFor};
 ghost use Rattle.event_facts.specs.Facts.{IsTrue, letters_in, play_before};
 
 use crate::facts::{Fact, Spelled};
@@ -36,7 +37,9 @@ fn play_before<'a>(scene: &Scene<'a>) -> Option<&'a Event>
 }
 
 /// That the words of the play before are all in the list, so that it cannot be taken back.
+#[tactic(auto, using(crate::proofs::Because::is_withdrawal_of, crate::proofs::Because::words_listed))]
 pub(crate) fn valid(alloc: Global, scene: &Scene<'_>) -> Result<Option<Fact>, AllocError>
+    requires fails { IsRefusedFor (moment_of scene.now) fault.WithdrawnValid }
     ensures { IfOk result (λ fact. IfSome fact (IsTrue (moment_of scene.now))) }
 {
     let words = spelled(alloc, scene.machine.latest_words())?;
@@ -50,7 +53,9 @@ pub(crate) fn valid(alloc: Global, scene: &Scene<'_>) -> Result<Option<Fact>, Al
 }
 
 /// That no word of the challenged play is in the list.
+#[tactic(auto, using(crate::proofs::Because::is_challenge_of, crate::proofs::Because::words_unlisted))]
 pub(crate) fn phony(alloc: Global, scene: &Scene<'_>) -> Result<Option<Fact>, AllocError>
+    requires fails { IsRefusedFor (moment_of scene.now) fault.BonusOnPhony }
     ensures { IfOk result (λ fact. IfSome fact (IsTrue (moment_of scene.now))) }
 {
     let words = spelled(alloc, scene.machine.latest_words())?;

@@ -5,6 +5,7 @@
 //! left.
 ghost use Rattle.std.specs.Prelude.{◌≡◌, ◌++◌, ◌+◌, ◌<◌, take, length, IfOk, IfSome, OnOk};
 ghost use Rattle.ref_tiles.specs.Counting.{IsContainedIn};
+ghost use Rattle.deal_cuts.specs.Cutting.{HasNoDeal};
 ghost use Rattle.event_facts.specs.Racks.{told_by, TellsPart, IsPartOf, ArePartsOf, clash_line, clash_lines, IsClash};
 
 use crate::facts::ClashLine;
@@ -228,18 +229,44 @@ fn clash_by(
     Ok(Some(lines))
 }
 
-/// What already cannot be together among what the steps up to and including a place show; none if no proof is found.
+/// What already cannot be together among what some steps show, if no deal gives it.
+#[derive(Drop)]
+pub(crate) struct Clash {
+    /// The lines, and the tiles that they show; none if the cut does not show that these cannot be together.
+    pub lines: Option<Vec<ClashLine>>,
+}
+
+/// What already cannot be together among what steps show, by a cut; none if the cut does not show that there is no deal.
+fn clash_in(
+    alloc: Global,
+    rules: &Rules,
+    steps: &[Step],
+    cut: &Cut,
+) -> Result<Option<Clash>, AllocError>
+    ensures none { IfOk result (λ clash. IfSome clash (λ c. HasNoDeal rules.now steps.now)) }
+    ensures clash { IfOk result (λ clash. IfSome clash (λ c. IfSome c.lines (λ lines. IsClash rules.now steps.now lines.items))) }
+{
+    if !rules_out(rules, steps, cut) {
+        return Ok(None);
+    }
+    let lines = clash_by(alloc, rules, steps, cut)?;
+    Ok(Some(Clash { lines }))
+}
+
+/// What already cannot be together among what the steps up to and including a place show; none if no proof is found that no deal gives
+/// it.
 pub(crate) fn clash_at(
     alloc: Global,
     rules: &Rules,
     steps: &[Step],
     place: usize,
-) -> Result<Option<Vec<ClashLine>>, AllocError>
+) -> Result<Option<Clash>, AllocError>
     requires { place < length steps.now }
-    ensures { IfOk result (λ clash. IfSome clash (λ lines. IsClash rules.now (take (place + 1) steps.now) lines.items)) }
+    ensures none { IfOk result (λ clash. IfSome clash (λ c. HasNoDeal rules.now (take (place + 1) steps.now))) }
+    ensures clash { IfOk result (λ clash. IfSome clash (λ c. IfSome c.lines (λ lines. IsClash rules.now (take (place + 1) steps.now) lines.items))) }
 {
     match settle(alloc, rules, steps)? {
-        Settling::NoDeal { cut, .. } => clash_by(alloc, rules, &steps[..place + 1], &cut),
+        Settling::NoDeal { cut, .. } => clash_in(alloc, rules, &steps[..place + 1], &cut),
         Settling::Dealt(_) | Settling::Unknown => Ok(None),
     }
 }

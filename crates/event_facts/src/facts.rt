@@ -80,6 +80,19 @@ pub struct UnlistedPlay {
     pub words: Vec<Spelled>,
 }
 
+/// A rack that is shown in part.
+#[derive(Drop)]
+pub struct RackPart {
+    /// The line of the turn.
+    pub line: u32,
+    /// The player whose rack it is.
+    pub player: Seat,
+    /// The number of tiles that the line shows.
+    pub shown: usize,
+    /// The number of tiles that the player has.
+    pub has: usize,
+}
+
 /// What is said about a record as a whole, or about one event: a sentence each.
 #[derive(Drop)]
 pub enum Fact {
@@ -94,10 +107,14 @@ pub enum Fact {
         /// These plays, in the order of the record.
         plays: Vec<UnlistedPlay>,
     },
-    /// On which turns no rack is shown.
+    /// Ten words or more of the plays that stand are not in the word list, so that it may be another list.
+    OtherList,
+    /// On which turns no rack is shown, and on which only a part of it.
     RacksHidden {
-        /// Their lines.
+        /// The lines of those that show no rack.
         lines: Vec<u32>,
+        /// The racks that are shown in part.
+        parts: Vec<RackPart>,
         /// The number of turns, with a rack or without.
         turns: usize,
     },
@@ -120,14 +137,14 @@ pub enum Fact {
         /// The line before.
         line: u32,
     },
-    /// With this line and the next one interchanged, the rules allow both.
+    /// With this line and the next one interchanged, the rules allow both, and every other line.
     WrongWay {
         /// This line.
         line: u32,
         /// The next one.
         next: u32,
     },
-    /// A line of the other player seems to be missing.
+    /// A line of the other player seems to be missing: if it has no points, a pass or an exchange.
     Missing {
         /// The other player.
         player: Seat,
@@ -275,7 +292,7 @@ pub enum Fact {
         /// The score that is written.
         written: i32,
     },
-    /// The same letters have the written score elsewhere.
+    /// The same letters have the written score elsewhere, and there the rules allow the record to its end.
     ElsewhereScore {
         /// The score that is written.
         written: i32,
@@ -283,6 +300,13 @@ pub enum Fact {
         spots: Vec<Spot>,
         /// The number of more places.
         others: usize,
+    },
+    /// With the right score the total that is written is right.
+    TotalFits {
+        /// The right score.
+        score: i32,
+        /// The total.
+        total: i32,
     },
     /// With a letter of the play as a blank, or a blank as a letter, it has the score that is written.
     AsBlank {
@@ -445,6 +469,23 @@ pub enum Fact {
         holder: Seat,
         /// The number of tiles that this player has.
         has: usize,
+    },
+    /// A line shows a whole rack, and not as many tiles of a kind as the lines before it leave on that rack.
+    LeftOver {
+        /// The player whose rack it is.
+        player: Seat,
+        /// The last of the lines before.
+        before: u32,
+        /// The tiles that are left on the rack after it.
+        left: Counts,
+        /// The line that shows a whole rack.
+        after: u32,
+        /// A kind of which it shows too few.
+        kind: Kind,
+        /// The number of them that it shows.
+        has: usize,
+        /// The number of them that are left.
+        had: usize,
     },
     /// A rack would have to hold more tiles than it has.
     RackTooBig {

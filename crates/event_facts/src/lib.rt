@@ -5,6 +5,7 @@ mod challenges;
 mod clashes;
 mod dealt;
 mod facts;
+mod moving;
 mod orders;
 mod play_faults;
 mod racks;
@@ -19,9 +20,9 @@ mod wholes;
 
 pub use dealt::dealt_to;
 pub use facts::{
-    ClashLine, ExchangeLine, Fact, KindLine, Leaving, RackLine, Spelled, UnlistedPlay,
+    ClashLine, ExchangeLine, Fact, KindLine, Leaving, RackLine, RackPart, Spelled, UnlistedPlay,
 };
-pub use racks::{no_deal, rack_too_big, tiles_short};
+pub use racks::{left_over, no_deal, rack_too_big, tiles_short};
 pub use readings::tell_rack_slip;
 pub use rule_faults::tell_rule_fault;
 pub use scenes::Scene;

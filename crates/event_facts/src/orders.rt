@@ -138,7 +138,7 @@ fn stands_twice(scene: &Scene<'_>) -> Option<Fact>
 // ---- the events in another order, or with another player
 
 /// A copy of the text.
-fn copied_text(text: &Text) -> Text
+pub(crate) fn copied_text(text: &Text) -> Text
     ensures { result ≡ text.now }
 {
     match Text::new(text.as_slice()) {
@@ -190,7 +190,7 @@ fn push_copy(events: &mut Vec<Event>, event: &Event) -> Result<(), AllocError>
 }
 
 /// Appends copies of events.
-fn push_copies(events: &mut Vec<Event>, more: &[Event]) -> Result<(), AllocError>
+pub(crate) fn push_copies(events: &mut Vec<Event>, more: &[Event]) -> Result<(), AllocError>
     ensures { OnOk result (events.new.items ≡ events.old.items ++ more.now) }
 {
     for event in more {
@@ -219,7 +219,7 @@ fn other_way(alloc: Global, scene: &Scene<'_>, next: &Event) -> Result<Vec<Event
     Ok(events)
 }
 
-/// That the rules allow this line and the next one interchanged.
+/// That the rules allow the record with this line and the next one interchanged.
 fn wrong_way(alloc: Global, scene: &Scene<'_>) -> Result<Option<Fact>, AllocError>
     ensures { IfOk result (λ fact. IfSome fact (IsTrue (moment_of scene.now))) }
 {
@@ -227,12 +227,8 @@ fn wrong_way(alloc: Global, scene: &Scene<'_>) -> Result<Option<Fact>, AllocErro
         return Ok(None);
     };
     let events = other_way(alloc, scene, next)?;
-    if !are_allowed(
-        scene.rules,
-        scene.list,
-        events.as_slice(),
-        scene.past.len() + 2,
-    ) {
+    let end = events.len();
+    if !are_allowed(scene.rules, scene.list, events.as_slice(), end) {
         return Ok(None);
     }
     Ok(Some(Fact::WrongWay {
@@ -305,7 +301,8 @@ fn missing(scene: &Scene<'_>) -> Option<Fact>
 // ---- the whole
 
 /// What may be wrong with a line of a player who is not on turn: it is written twice, it and the next one are interchanged, a line
-/// is missing before it, or it is the other player's. The first of these that holds.
+/// is missing before it, or it is the other player's. The first of these that holds. Another order is named only if the rules allow
+/// the record in that order to its end.
 pub(crate) fn order_fact(alloc: Global, scene: &Scene<'_>) -> Result<Option<Fact>, AllocError>
     ensures { IfOk result (λ fact. IfSome fact (IsTrue (moment_of scene.now))) }
 {

@@ -61,9 +61,10 @@ fn mismatch(scene: &Scene<'_>, at: Square, dir: Dir, word: &[Symbol]) -> Option<
 }
 
 /// The number of tiles that a play puts down.
-#[tactic(auto, using(crate::proofs::Plays::of_play))]
+#[tactic(auto, using(crate::proofs::Plays::of_play, crate::proofs::Because::more_than_seven))]
 fn too_many(scene: &Scene<'_>, at: Square, dir: Dir, word: &[Symbol]) -> Option<Fact>
-    requires { scene.now.event.now.kind ≡ kind.Play at dir word.now }
+    requires play { scene.now.event.now.kind ≡ kind.Play at dir word.now }
+    requires fails { play_fault (state_of scene.now.machine.now).board dir at word.now ≡ Some fault.TooManyTiles }
     ensures { IfSome result (IsTrue (moment_of scene.now)) }
 {
     let tiles = new_tiles(scene.machine.board(), at, dir, word)?;

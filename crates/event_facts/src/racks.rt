@@ -1,16 +1,16 @@
 //! Racks that cannot be dealt.
-ghost use Rattle.std.specs.Prelude.{◌≡◌, ◌++◌, ◌↔◌, [], IsTrue, IfOk, IfSome, OnOk, Some, reverse, slice_get, if◌then◌else◌};
+ghost use Rattle.std.specs.Prelude.{◌≡◌, ◌<◌, ◌++◌, ◌↔◌, [], IsTrue, IfOk, IfSome, OnOk, Some, sum, take, reverse, slice_get, if◌then◌else◌};
 ghost use Rattle.std.specs.List.{list_any};
-ghost use Rattle.ref_tiles.specs.Counting.{no_tiles};
+ghost use Rattle.ref_tiles.specs.Counting.{no_tiles, count_of};
 ghost use Rattle.deal_steps.specs.Knowing.{IsShownAt};
-ghost use Rattle.deal_steps.specs.Steps.{needed, ends_epoch};
-ghost use Rattle.event_facts.specs.Racks.{holder_of, left_by, leaving, rack_line, rack_lines, together, leaving_by, laid_in_kind, shown_in_kind, kind_line, kind_lines, exchanged_by, exchanged_by_motion, exchange_line, exchange_lines, IsRackTrue};
+ghost use Rattle.deal_steps.specs.Steps.{needed, ends_epoch, size_of};
+ghost use Rattle.event_facts.specs.Racks.{holder_of, left_by, leaving, rack_line, rack_lines, together, left_after, leaving_by, laid_in_kind, shown_in_kind, kind_line, kind_lines, exchanged_by, exchanged_by_motion, exchange_line, exchange_lines, IsRackTrue};
 
 use crate::clashes::clash_at;
 use crate::facts::{ExchangeLine, Fact, KindLine, Leaving, RackLine};
 use deal_steps::{Act, Known, Motion, Step, greater, shown_at, used_by, without};
 use gcg_read::{Seat, same_seat};
-use ref_tiles::{Counts, Kind, Rules};
+use ref_tiles::{Counts, KINDS, Kind, Rules};
 use std::alloc::{AllocError, Global};
 
 /// The player whose rack a step shows: the one who moves, or the holder of a last rack.
@@ -197,6 +197,94 @@ fn too_big(
     }))
 }
 
+// ---- tiles that are left over
+
+/// What lines leave on a rack after the last of them.
+fn left_after(lines: &[RackLine]) -> Counts
+    ensures { result ≡ left_after no_tiles lines.now }
+{
+    let mut known = Counts::new();
+    for k in 0..lines.len() {
+        let line = &lines[k];
+        known = without(&greater(&known, &line.shown), &left_by(&line.leaves));
+    }
+    known
+}
+
+/// The first kind of which some tiles have fewer than others.
+fn first_fewer(tiles: &Counts, others: &Counts) -> Option<Kind>
+    ensures { IfSome result (λ kind. count_of tiles.now kind < count_of others.now kind) }
+{
+    for number in 0..KINDS {
+        let kind = Kind::at(number);
+        if tiles.count(kind) < others.count(kind) {
+            return Some(kind);
+        }
+    }
+    None
+}
+
+/// The tiles that lines leave over, by what the step shows.
+fn left_by_lines(
+    rules: &Rules,
+    steps: &[Step],
+    place: usize,
+    step: &Step,
+    player: Seat,
+    lines: &[RackLine],
+    shown: &Counts,
+) -> Option<Fact>
+    requires there { slice_get steps.now place ≡ Some step.now }
+    requires of { player ≡ holder_of step.now }
+    requires lines { lines.now ≡ rack_lines player (reverse (take place steps.now)) }
+    requires shows { needed player step.now ≡ Some shown.now }
+    requires whole { sum shown.now ≡ size_of step.now player }
+    ensures { IfSome result (IsRackTrue rules.now steps.now place) }
+{
+    let _ = rules;
+    let _ = steps;
+    let _ = place;
+    let latest = lines.last()?;
+    let left = left_after(lines);
+    let kind = first_fewer(shown, &left)?;
+    Some(Fact::LeftOver {
+        player,
+        before: latest.line,
+        left,
+        after: step.line,
+        kind,
+        has: shown.count(kind) as usize,
+        had: left.count(kind) as usize,
+    })
+}
+
+/// That a step shows a whole rack, and fewer tiles of a kind than the lines before it leave there; none if it does not.
+///
+/// It fails only if memory runs out.
+#[tactic(auto, using(crate::proofs::RackLaws::within))]
+pub fn left_over(
+    alloc: Global,
+    rules: &Rules,
+    steps: &[Step],
+    place: usize,
+) -> Result<Option<Fact>, AllocError>
+    ensures { IfOk result (λ fact. IfSome fact (IsRackTrue rules.now steps.now place)) }
+{
+    let Some(step) = steps.get(place) else {
+        return Ok(None);
+    };
+    let player = holder_of(step);
+    let Some(shown) = tiles_of(step, player) else {
+        return Ok(None);
+    };
+    if shown.total() != step.size_of(player) {
+        return Ok(None);
+    }
+    let past = &steps[..place];
+    let lines = rack_lines(alloc, past, player)?;
+    Ok(left_by_lines(rules, steps, place, step, player, lines.as_slice(), &shown))
+}
+
 // ---- tiles that are short
 
 /// The number of tiles of a kind that a step puts on the board for good.
@@ -370,7 +458,8 @@ fn exchange_lines(alloc: Global, steps: &[Step]) -> Result<Vec<ExchangeLine>, Al
     Ok(lines)
 }
 
-/// Which tiles and lines cannot be together, and the exchanges up to a step, if no deal gives the racks up to it.
+/// Which tiles and lines cannot be together, and the exchanges up to a step; none if no proof is found that no deal gives the racks up
+/// to it.
 ///
 /// It fails only if memory runs out.
 pub fn no_deal(
@@ -384,8 +473,13 @@ pub fn no_deal(
     let Some(step) = steps.get(place) else {
         return Ok(None);
     };
-    let clash = clash_at(alloc, rules, steps, place)?;
+    let Some(clash) = clash_at(alloc, rules, steps, place)? else {
+        return Ok(None);
+    };
     let mut exchanges = exchange_lines(alloc, steps.get(..place).unwrap_or(&[]))?;
     push_exchange(&mut exchanges, step)?;
-    Ok(Some(Fact::NoDeal { clash, exchanges }))
+    Ok(Some(Fact::NoDeal {
+        clash: clash.lines,
+        exchanges,
+    }))
 }

@@ -2,7 +2,8 @@
 ghost use Rattle.std.specs.Prelude.{◌≡◌, All, OnOk, IfOk, IfSome, Some};
 ghost use Rattle.game_turns.specs.Checks.{fault_in};
 ghost use Rattle.game_turns.specs.Machines.{state_of};
-ghost use Rattle.event_facts.specs.Moments.{moment_of};
+ghost use Rattle.game_turns.specs.declared.faults.RuleFault.TheVariants as rule_fault;
+ghost use Rattle.event_facts.specs.Moments.{moment_of, IsRefusedFor};
 ghost use Rattle.event_facts.specs.Facts.{IsTrue};
 
 use crate::challenges::{nothing_to_withdraw, phony, valid, wrong_bonus};
@@ -27,11 +28,12 @@ fn tell_play(alloc: Global, facts: &mut Vec<Fact>, scene: &Scene<'_>) -> Result<
         return Ok(());
     };
     tell_play_fault(facts, scene, *at, *dir, word.as_slice())?;
-    tell_elsewhere(alloc, facts, scene, *at, *dir, word.as_slice())
+    tell_elsewhere(alloc, facts, scene, *at, *dir, word)
 }
 
 /// What is wrong with an event, if one fact says it.
 fn one_fact(alloc: Global, scene: &Scene<'_>, fault: &RuleFault) -> Result<Option<Fact>, AllocError>
+    requires fails { IsRefusedFor (moment_of scene.now) fault.now }
     ensures { IfOk result (λ fact. IfSome fact (IsTrue (moment_of scene.now))) }
 {
     match fault {
@@ -60,7 +62,8 @@ fn tell_one(
     scene: &Scene<'_>,
     fault: &RuleFault,
 ) -> Result<(), AllocError>
-    requires { All (IsTrue (moment_of scene.now)) facts.old.items }
+    requires told { All (IsTrue (moment_of scene.now)) facts.old.items }
+    requires fails { IsRefusedFor (moment_of scene.now) fault.now }
     ensures { OnOk result (All (IsTrue (moment_of scene.now)) facts.new.items) }
 {
     let fact = one_fact(alloc, scene, fault)?;
@@ -69,7 +72,8 @@ fn tell_one(
 
 /// Adds whose turn it is, and what may be wrong with the order of the lines.
 fn tell_turn(alloc: Global, facts: &mut Vec<Fact>, scene: &Scene<'_>) -> Result<(), AllocError>
-    requires { All (IsTrue (moment_of scene.now)) facts.old.items }
+    requires told { All (IsTrue (moment_of scene.now)) facts.old.items }
+    requires fails { IsRefusedFor (moment_of scene.now) rule_fault.NotYourTurn }
     ensures { OnOk result (All (IsTrue (moment_of scene.now)) facts.new.items) }
 {
     let fact = order_fact(alloc, scene)?;

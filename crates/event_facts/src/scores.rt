@@ -6,15 +6,16 @@ ghost use Rattle.game_turns.specs.Machines.{state_of};
 ghost use Rattle.game_turns.specs.declared.faults.RuleFault.TheVariants as fault;
 ghost use Rattle.event_facts.specs.Moments.{moment_of};
 ghost use Rattle.event_facts.specs.Facts.{IsTrue};
-ghost use Rattle.event_facts.specs.Elsewhere.{is_listed_at, places};
+ghost use Rattle.event_facts.specs.Elsewhere.{is_listed_at, standing, places};
 
 use crate::facts::Fact;
+use crate::moving::standing_spots;
 use crate::play_faults::tell_some;
 use crate::readings::tell_slips;
 use crate::scenes::{Scene, tell};
 use game_facts::{Spot, scoring_spots};
 use game_turns::{all_listed, legal_play};
-use gcg_read::EventKind;
+use gcg_read::{EventKind, Text};
 use lex_list::WordList;
 use ref_board::{Board, Dir, Square};
 use ref_play::words;
@@ -78,14 +79,25 @@ fn listed_spots(
     Ok(listed)
 }
 
-/// Where the text of a play has the written score: the spots at which each word is in the word list, if there is one, otherwise all.
+/// Where the text of a play has the written score and stands with the rest of the record.
+#[tactic(auto, unfolding(crate::specs::Elsewhere::standing))]
+fn standing(alloc: Global, scene: &Scene<'_>, word: &Text) -> Result<Vec<Spot>, AllocError>
+    ensures { IfOk result (λ spots. spots.items ≡ standing (moment_of scene.now) word.now) }
+{
+    let board = scene.machine.board();
+    let score = scene.event.score;
+    let spots = scoring_spots(alloc, scene.rules, board, word.as_slice(), score)?;
+    standing_spots(alloc, scene, word, spots.as_slice())
+}
+
+/// Of these spots those at which each word is in the word list, if there is one, otherwise all.
 #[tactic(auto, unfolding(crate::specs::Elsewhere::places))]
-fn places(alloc: Global, scene: &Scene<'_>, word: &[Symbol]) -> Result<Vec<Spot>, AllocError>
+fn places(alloc: Global, scene: &Scene<'_>, word: &Text) -> Result<Vec<Spot>, AllocError>
     ensures { IfOk result (λ spots. spots.items ≡ places (moment_of scene.now) word.now) }
 {
     let board = scene.machine.board();
-    let spots = scoring_spots(alloc, scene.rules, board, word, scene.event.score)?;
-    let listed = listed_spots(alloc, board, scene.list, word, spots.as_slice())?;
+    let spots = standing(alloc, scene, word)?;
+    let listed = listed_spots(alloc, board, scene.list, word.as_slice(), spots.as_slice())?;
     if listed.is_empty() {
         return Ok(spots);
     }
@@ -110,14 +122,14 @@ fn first_named(alloc: Global, spots: &[Spot]) -> Result<Named, AllocError>
     })
 }
 
-/// Where the text of a play has the written score, if it has it anywhere.
-#[tactic(auto, using(crate::proofs::Plays::of_play, crate::proofs::Places::all_score))]
+/// Where the text of a play has the written score and stands with the rest of the record, if it does so anywhere.
+#[tactic(auto, using(crate::proofs::Plays::of_play, crate::proofs::Places::all_score, crate::proofs::Places::all_stand))]
 fn elsewhere(
     alloc: Global,
     scene: &Scene<'_>,
     at: Square,
     dir: Dir,
-    word: &[Symbol],
+    word: &Text,
 ) -> Result<Option<Fact>, AllocError>
     requires { scene.now.event.now.kind ≡ kind.Play at dir word.now }
     ensures { IfOk result (λ fact. IfSome fact (IsTrue (moment_of scene.now))) }
@@ -134,14 +146,14 @@ fn elsewhere(
     }))
 }
 
-/// Adds where the text of a play has the written score, if it has it anywhere.
+/// Adds where the text of a play has the written score and stands with the rest of the record, if it does so anywhere.
 pub(crate) fn tell_elsewhere(
     alloc: Global,
     facts: &mut Vec<Fact>,
     scene: &Scene<'_>,
     at: Square,
     dir: Dir,
-    word: &[Symbol],
+    word: &Text,
 ) -> Result<(), AllocError>
     requires told { All (IsTrue (moment_of scene.now)) facts.old.items }
     requires play { scene.now.event.now.kind ≡ kind.Play at dir word.now }
@@ -151,7 +163,45 @@ pub(crate) fn tell_elsewhere(
     tell_some(facts, scene, fact)
 }
 
-/// Adds the score of an event, and for a play, with which other tile and in which other place it would have the written score.
+/// That the written total is the right one with the right score.
+fn fitting_total(scene: &Scene<'_>, right: i32) -> Option<Fact>
+    requires fails { fault_in scene.now.rules.now scene.now.list.now (state_of scene.now.machine.now) scene.now.event.now ≡ Some (fault.WrongScore right) }
+    ensures { IfSome result (IsTrue (moment_of scene.now)) }
+{
+    let sum = scene.machine.total(scene.event.player).checked_add(right)?;
+    if scene.event.total.value() != sum {
+        return None;
+    }
+    Some(Fact::TotalFits {
+        score: right,
+        total: sum,
+    })
+}
+
+/// Adds where the text of a play has the written score and stands with the rest of the record; if it does so nowhere, that the written
+/// total is the right one with the right score, if this is so.
+fn tell_place_or_total(
+    alloc: Global,
+    facts: &mut Vec<Fact>,
+    scene: &Scene<'_>,
+    at: Square,
+    dir: Dir,
+    word: &Text,
+    right: i32,
+) -> Result<(), AllocError>
+    requires told { All (IsTrue (moment_of scene.now)) facts.old.items }
+    requires play { scene.now.event.now.kind ≡ kind.Play at dir word.now }
+    requires fails { fault_in scene.now.rules.now scene.now.list.now (state_of scene.now.machine.now) scene.now.event.now ≡ Some (fault.WrongScore right) }
+    ensures { OnOk result (All (IsTrue (moment_of scene.now)) facts.new.items) }
+{
+    match elsewhere(alloc, scene, at, dir, word)? {
+        Some(fact) => tell(facts, scene, fact),
+        None => tell_some(facts, scene, fitting_total(scene, right)),
+    }
+}
+
+/// Adds the score of an event, and for a play, with which other tile and in which other place it would have the written score, or that
+/// the written total is right.
 pub(crate) fn tell_score(
     alloc: Global,
     facts: &mut Vec<Fact>,
@@ -165,9 +215,8 @@ pub(crate) fn tell_score(
     tell(facts, scene, score_fact(scene, right))?;
     match &scene.event.kind {
         EventKind::Play { at, dir, word } => {
-            let (at, dir, word) = (*at, *dir, word.as_slice());
-            tell_slips(alloc, facts, scene, at, dir, word, true)?;
-            tell_elsewhere(alloc, facts, scene, at, dir, word)
+            tell_slips(alloc, facts, scene, *at, *dir, word.as_slice(), true)?;
+            tell_place_or_total(alloc, facts, scene, *at, *dir, word, right)
         }
         _ => Ok(()),
     }

@@ -1,6 +1,7 @@
 //! Events with more tiles than there are.
 ghost use Rattle.std.specs.Prelude.{◌≡◌, IfSome};
-ghost use Rattle.event_facts.specs.Moments.{moment_of};
+ghost use Rattle.game_turns.specs.declared.faults.RuleFault.TheVariants as fault;
+ghost use Rattle.event_facts.specs.Moments.{moment_of, IsRefusedFor};
 ghost use Rattle.event_facts.specs.Facts.{IsTrue, exchanged, holder_at};
 
 use crate::facts::Fact;
@@ -9,8 +10,9 @@ use game_facts::new_tiles;
 use gcg_read::{EventKind, Seat};
 
 /// The number of tiles that a play uses, and the number that its player has.
-#[tactic(auto, using(crate::proofs::Plays::of_play))]
+#[tactic(auto, using(crate::proofs::Plays::of_play, crate::proofs::Because::more_than_held))]
 pub(crate) fn too_many_used(scene: &Scene<'_>) -> Option<Fact>
+    requires fails { IsRefusedFor (moment_of scene.now) fault.TooManyUsed }
     ensures { IfSome result (IsTrue (moment_of scene.now)) }
 {
     let EventKind::Play { at, dir, word } = &scene.event.kind else {
@@ -25,7 +27,9 @@ pub(crate) fn too_many_used(scene: &Scene<'_>) -> Option<Fact>
 }
 
 /// The number of tiles in the bag, and the number that an exchange needs.
+#[tactic(auto, using(crate::proofs::Because::refused_exchange, crate::proofs::Because::bag_too_small))]
 pub(crate) fn exchange_refused(scene: &Scene<'_>) -> Option<Fact>
+    requires fails { IsRefusedFor (moment_of scene.now) fault.ExchangeRefused }
     ensures { IfSome result (IsTrue (moment_of scene.now)) }
 {
     Some(Fact::ExchangeRefused {
@@ -46,7 +50,9 @@ fn exchanged(kind: &EventKind) -> usize
 }
 
 /// The number of tiles that are exchanged, and the number that there are.
+#[tactic(auto, using(crate::proofs::Because::large_exchange, crate::proofs::Because::more_than_there_are))]
 pub(crate) fn exchange_size(scene: &Scene<'_>) -> Option<Fact>
+    requires fails { IsRefusedFor (moment_of scene.now) fault.ExchangeSize }
     ensures { IfSome result (IsTrue (moment_of scene.now)) }
 {
     Some(Fact::ExchangeSize {
@@ -68,8 +74,9 @@ fn holder(scene: &Scene<'_>) -> Seat
 }
 
 /// The number of tiles that a last rack shows, and the number that its holder has.
-#[tactic(auto, using(crate::proofs::Plays::of_last_rack))]
+#[tactic(auto, using(crate::proofs::Plays::of_last_rack, crate::proofs::Because::rack_size_differs))]
 pub(crate) fn last_rack_size(scene: &Scene<'_>) -> Option<Fact>
+    requires fails { IsRefusedFor (moment_of scene.now) fault.LastRackSize }
     ensures { IfSome result (IsTrue (moment_of scene.now)) }
 {
     let EventKind::LastRack(tiles) = &scene.event.kind else {

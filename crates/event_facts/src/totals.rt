@@ -3,7 +3,7 @@ ghost use Rattle.std.specs.Prelude.{◌≡◌, ◌+ℤ◌, All, OnOk, IfSome, So
 ghost use Rattle.game_turns.specs.Checks.{fault_in};
 ghost use Rattle.game_turns.specs.Machines.{state_of};
 ghost use Rattle.game_turns.specs.declared.faults.RuleFault.TheVariants as fault;
-ghost use Rattle.event_facts.specs.Moments.{moment_of};
+ghost use Rattle.event_facts.specs.Moments.{moment_of, IsRefusedFor};
 ghost use Rattle.event_facts.specs.Facts.{IsTrue, IsTimeOf};
 
 use crate::facts::Fact;
@@ -71,7 +71,9 @@ fn time_line(events: &[Event], player: Seat) -> Option<u32>
 }
 
 /// Which penalties for time are possible.
+#[tactic(auto, using(crate::proofs::Because::is_time_of, crate::proofs::Because::no_step))]
 pub(crate) fn bad_time(scene: &Scene<'_>) -> Option<Fact>
+    requires fails { IsRefusedFor (moment_of scene.now) fault.BadTime }
     ensures { IfSome result (IsTrue (moment_of scene.now)) }
 {
     let player = scene.event.player;

@@ -1,6 +1,9 @@
 //! Whose turn it is, and whether there are any more.
-ghost use Rattle.std.specs.Prelude.{IfSome};
-ghost use Rattle.event_facts.specs.Moments.{moment_of};
+ghost use Rattle.std.specs.Prelude.{◌≡◌, false, true, IfSome};
+ghost use Rattle.game_turns.specs.Tallies.{is_last_rack};
+ghost use Rattle.game_turns.specs.declared.faults.RuleFault.TheVariants as fault;
+ghost use Rattle.game_turns.specs.Machines.{state_of};
+ghost use Rattle.event_facts.specs.Moments.{moment_of, IsRefusedFor};
 ghost use Rattle.event_facts.specs.Facts.{IsTrue};
 
 use crate::facts::Fact;
@@ -8,7 +11,10 @@ use crate::scenes::Scene;
 use gcg_read::{EventKind, Seat};
 
 /// On whose line a last rack must be.
+#[tactic(auto, using(crate::proofs::Because::line_of_out))]
 fn others_line(scene: &Scene<'_>) -> Option<Fact>
+    requires fails { IsRefusedFor (moment_of scene.now) fault.NotYourTurn }
+    requires rack { is_last_rack scene.now.event.now.kind ≡ true }
     ensures { IfSome result (IsTrue (moment_of scene.now)) }
 {
     let out = scene.machine.out()?;
@@ -18,11 +24,20 @@ fn others_line(scene: &Scene<'_>) -> Option<Fact>
     })
 }
 
+/// Whether an event is a last rack.
+fn is_last_rack(kind: &EventKind) -> bool
+    ensures { result ≡ is_last_rack kind.now }
+{
+    matches!(kind, EventKind::LastRack(_))
+}
+
 /// Whose turn it is, or on whose line a last rack must be.
+#[tactic(auto, using(crate::proofs::Because::turn_of_other))]
 pub(crate) fn not_your_turn(scene: &Scene<'_>) -> Option<Fact>
+    requires fails { IsRefusedFor (moment_of scene.now) fault.NotYourTurn }
     ensures { IfSome result (IsTrue (moment_of scene.now)) }
 {
-    if matches!(scene.event.kind, EventKind::LastRack(_)) {
+    if is_last_rack(&scene.event.kind) {
         return others_line(scene);
     }
     Some(Fact::OthersTurn {
@@ -33,6 +48,7 @@ pub(crate) fn not_your_turn(scene: &Scene<'_>) -> Option<Fact>
 
 /// That a player has lost the points of a rack, if this is so.
 fn rack_lost(scene: &Scene<'_>, player: Seat) -> Option<Fact>
+    requires { (state_of scene.now.machine.now).complete ≡ false }
     ensures { IfSome result (IsTrue (moment_of scene.now)) }
 {
     if !scene.machine.has_ended(player) {
@@ -65,7 +81,9 @@ pub(crate) fn game_over(scene: &Scene<'_>) -> Option<Fact>
 }
 
 /// Why no last rack is due.
+#[tactic(auto, using(crate::proofs::Because::none_out, crate::proofs::Because::turns_left))]
 pub(crate) fn not_over(scene: &Scene<'_>) -> Option<Fact>
+    requires fails { IsRefusedFor (moment_of scene.now) fault.NotOver }
     ensures { IfSome result (IsTrue (moment_of scene.now)) }
 {
     Some(Fact::NoRackDue {

@@ -1,14 +1,14 @@
-//! What is said about a record whose events the rules allow: which plays stand with words that are not in the list, and which turns
-//! show no rack.
-ghost use Rattle.std.specs.Prelude.{◌≡◌, ◌+◌, ◌<◌, ◌++◌, ◌∷◌, [], map, length, slice_get, Some, IfOk, OnOk};
+//! What is said about a record whose events the rules allow: which plays stand with words that are not in the list, which turns show no
+//! rack or only a part of it, which last rack is missing, and whether the list may be another one.
+ghost use Rattle.std.specs.Prelude.{◌≡◌, ◌+◌, ◌<◌, ◌++◌, ◌∷◌, [], false, nat_le, map, length, slice_get, Some, None, IfOk, OnOk};
 ghost use Rattle.ref_play.specs.Words.{items_of};
 ghost use Rattle.game_turns.specs.Machines.{rules_of, state_of};
 ghost use Rattle.game_turns.specs.Passing.{rules_in, record_in, list_in};
 ghost use Rattle.game_turns.specs.Tallies.{tally_at};
 ghost use Rattle.event_facts.specs.Facts.{letters_in};
-ghost use Rattle.event_facts.specs.Wholes.{play_in, unlisted_one, unlisted_of, play_with, unlisted_to, may_show, one_where, turn_line, hidden_line, turns_to, hidden_to, TellsUnlisted, TellsHidden, AddsNotes};
+ghost use Rattle.event_facts.specs.Wholes.{play_in, unlisted_one, unlisted_of, play_with, unlisted_to, words_in, other_list, may_show, one_where, turn_line, hidden_line, part_by, part_line, turns_to, hidden_to, parts_to, due_by, due_facts, TellsUnlisted, TellsHidden, AddsNotes};
 
-use crate::facts::{Fact, Spelled, UnlistedPlay};
+use crate::facts::{Fact, RackPart, Spelled, UnlistedPlay};
 use game_turns::{Machine, Passed};
 use gcg_read::{Event, EventKind, Seat};
 use lex_list::WordList;
@@ -102,6 +102,30 @@ fn push_where(lines: &mut Vec<u32>, so: bool, line: u32) -> Result<(), AllocErro
     Ok(())
 }
 
+/// Appends the rack of an event, if the event may show one and shows fewer tiles than its player has.
+fn push_part(
+    parts: &mut Vec<RackPart>,
+    shows: bool,
+    has: usize,
+    event: &Event,
+) -> Result<(), AllocError>
+    ensures { OnOk result (parts.new.items ≡ parts.old.items ++ part_by shows has event.now event.now.rack) }
+{
+    let Some(rack) = &event.rack else {
+        return Ok(());
+    };
+    let shown = rack.total();
+    if shows && shown < has {
+        parts.push(RackPart {
+            line: event.line,
+            player: event.player,
+            shown,
+            has,
+        })?;
+    }
+    Ok(())
+}
+
 /// Lines of turns.
 #[derive(Drop)]
 struct TurnLines {
@@ -109,6 +133,8 @@ struct TurnLines {
     turns: Vec<u32>,
     /// Those that show no rack.
     hidden: Vec<u32>,
+    /// The racks that are shown in part.
+    parts: Vec<RackPart>,
 }
 
 impl TurnLines {
@@ -116,23 +142,32 @@ impl TurnLines {
     fn take(&mut self, machine: &Machine, event: &Event) -> Result<(), AllocError>
         ensures turns { OnOk result (self.new.turns.items ≡ self.old.turns.items ++ turn_line (state_of machine.now) (Some event.now)) }
         ensures hidden { OnOk result (self.new.hidden.items ≡ self.old.hidden.items ++ hidden_line (state_of machine.now) (Some event.now)) }
+        ensures parts { OnOk result (self.new.parts.items ≡ self.old.parts.items ++ part_line (state_of machine.now) (Some event.now)) }
     {
         let shows = may_show(machine.out(), &event.kind);
         push_where(&mut self.turns, shows, event.line)?;
-        push_where(&mut self.hidden, shows && event.rack.is_none(), event.line)
+        push_where(&mut self.hidden, shows && event.rack.is_none(), event.line)?;
+        push_part(
+            &mut self.parts,
+            shows,
+            machine.rack_size(event.player),
+            event,
+        )
     }
 }
 
-/// The lines of the turns of a record, and those that show no rack.
-#[tactic(auto, using(game_turns::proofs::PlaceLaws::start_tally, crate::proofs::WholeLaws::read_there, crate::proofs::WholeLaws::turns_more, crate::proofs::WholeLaws::hidden_more))]
+/// The lines of the turns of a record, those that show no rack, and those that show a part of it.
+#[tactic(auto, using(game_turns::proofs::PlaceLaws::start_tally, crate::proofs::WholeLaws::read_there, crate::proofs::WholeLaws::turns_more, crate::proofs::WholeLaws::hidden_more, crate::proofs::WholeLaws::parts_more))]
 fn turn_lines(alloc: Global, passed: &Passed<'_>) -> Result<TurnLines, AllocError>
     ensures turns { IfOk result (λ l. l.turns.items ≡ turns_to (rules_in passed.now) (record_in passed.now).events (length (record_in passed.now).events)) }
     ensures hidden { IfOk result (λ l. l.hidden.items ≡ hidden_to (rules_in passed.now) (record_in passed.now).events (length (record_in passed.now).events)) }
+    ensures parts { IfOk result (λ l. l.parts.items ≡ parts_to (rules_in passed.now) (record_in passed.now).events (length (record_in passed.now).events)) }
 {
     let events = passed.record().events.as_slice();
     let mut lines = TurnLines {
         turns: Vec::new(alloc),
         hidden: Vec::new(alloc),
+        parts: Vec::new(alloc),
     };
     let mut machine = Machine::new(passed.rules());
     for place in 0..events.len() {
@@ -142,15 +177,102 @@ fn turn_lines(alloc: Global, passed: &Passed<'_>) -> Result<TurnLines, AllocErro
     Ok(lines)
 }
 
-/// Which plays of a record stand with words that are not in its list.
-fn unlisted_fact(alloc: Global, passed: &Passed<'_>) -> Result<Fact, AllocError>
-    ensures { IfOk result (TellsUnlisted (rules_in passed.now) (list_in passed.now) (record_in passed.now).events) }
+/// Whether plays have ten words or more that are not in the list.
+#[tactic(auto, using(crate::proofs::WholeLaws::ten_reached, crate::proofs::WholeLaws::ten_not_reached, crate::proofs::WholeLaws::ten_left))]
+fn has_many(plays: &[UnlistedPlay]) -> bool
+    ensures { result ≡ nat_le 10 (words_in (map play_in plays.now)) }
 {
-    let plays = unlisted_plays(alloc, passed)?;
-    Ok(Fact::Unlisted { plays })
+    let mut left = 10usize;
+    for k in 0..plays.len() {
+        let words = plays[k].words.len();
+        if words >= left {
+            return true;
+        }
+        left -= words;
+    }
+    false
 }
 
-/// Which turns of a record show no rack.
+/// Appends that the list may be another one, if a condition holds.
+fn push_other_list(facts: &mut Vec<Fact>, so: bool) -> Result<(), AllocError>
+    ensures { OnOk result (facts.new.items ≡ facts.old.items ++ other_list so) }
+{
+    if so {
+        facts.push(Fact::OtherList)?;
+    }
+    Ok(())
+}
+
+/// Appends the last rack that is missing if a player has lost the points of a rack.
+fn push_lost(facts: &mut Vec<Fact>, first: bool, second: bool) -> Result<(), AllocError>
+    ensures { OnOk result (facts.new.items ≡ facts.old.items ++ due_by false None first second) }
+{
+    if first {
+        facts.push(Fact::RackLost {
+            player: Seat::First,
+            holder: Seat::Second,
+        })?;
+        return Ok(());
+    }
+    if second {
+        facts.push(Fact::RackLost {
+            player: Seat::Second,
+            holder: Seat::First,
+        })?;
+    }
+    Ok(())
+}
+
+/// Appends the last rack that is missing if a player is out or has lost the points of a rack, until the game is complete.
+fn push_due_by(
+    facts: &mut Vec<Fact>,
+    complete: bool,
+    out: Option<Seat>,
+    first: bool,
+    second: bool,
+) -> Result<(), AllocError>
+    ensures { OnOk result (facts.new.items ≡ facts.old.items ++ due_by complete out first second) }
+{
+    if complete {
+        return Ok(());
+    }
+    if let Some(out) = out {
+        facts.push(Fact::Out {
+            out,
+            holder: out.other(),
+        })?;
+        return Ok(());
+    }
+    push_lost(facts, first, second)
+}
+
+/// Appends the last rack that is missing after the last event, if one is.
+fn push_due(facts: &mut Vec<Fact>, machine: &Machine) -> Result<(), AllocError>
+    ensures { OnOk result (facts.new.items ≡ facts.old.items ++ due_facts (state_of machine.now)) }
+{
+    push_due_by(
+        facts,
+        machine.finished(),
+        machine.out(),
+        machine.has_ended(Seat::First),
+        machine.has_ended(Seat::Second),
+    )
+}
+
+/// The game after the last event.
+#[tactic(auto, using(game_turns::proofs::PlaceLaws::start_tally))]
+fn end_of(passed: &Passed<'_>) -> Machine
+    ensures { state_of result ≡ tally_at (rules_in passed.now) (record_in passed.now).events (length (record_in passed.now).events) }
+{
+    let events = passed.record().events.as_slice();
+    let mut machine = Machine::new(passed.rules());
+    for place in 0..events.len() {
+        passed.take_event(&mut machine, place);
+    }
+    machine
+}
+
+/// Which turns of a record show no rack, and which show a part of it.
 fn hidden_fact(alloc: Global, passed: &Passed<'_>) -> Result<Fact, AllocError>
     ensures { IfOk result (TellsHidden (rules_in passed.now) (record_in passed.now).events) }
 {
@@ -158,15 +280,16 @@ fn hidden_fact(alloc: Global, passed: &Passed<'_>) -> Result<Fact, AllocError>
     let turns = lines.turns.len();
     Ok(Fact::RacksHidden {
         lines: lines.hidden,
+        parts: lines.parts,
         turns,
     })
 }
 
-/// Adds what is said about a record whose events the rules allow: which of its plays stand with words that are not in the list, and
-/// which of its turns show no rack.
+/// Adds what is said about a record whose events the rules allow: which of its plays stand with words that are not in the list, which of
+/// its turns show no rack or only a part of it, which last rack is missing, and whether the list may be another one.
 ///
 /// It fails only if memory runs out.
-#[tactic(auto, using(crate::proofs::WholeLaws::both_told))]
+#[tactic(auto, using(crate::proofs::WholeLaws::all_told))]
 pub fn push_notes(
     alloc: Global,
     facts: &mut Vec<Fact>,
@@ -174,9 +297,13 @@ pub fn push_notes(
 ) -> Result<(), AllocError>
     ensures { OnOk result (AddsNotes (rules_in passed.now) (list_in passed.now) (record_in passed.now).events facts.old.items facts.new.items) }
 {
-    let unlisted = unlisted_fact(alloc, passed)?;
+    let plays = unlisted_plays(alloc, passed)?;
+    let many = has_many(plays.as_slice());
     let hidden = hidden_fact(alloc, passed)?;
-    facts.push(unlisted)?;
+    let end = end_of(passed);
+    facts.push(Fact::Unlisted { plays })?;
+    push_other_list(facts, many)?;
     facts.push(hidden)?;
+    push_due(facts, &end)?;
     Ok(())
 }

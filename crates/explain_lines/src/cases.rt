@@ -11,13 +11,15 @@ use explanations::{Explanation, Picture};
 use game_case::Case;
 use gcg_read::ReadFault;
 use lex_list::WordList;
-use record_sentences::{push_missing, push_record_fault};
+use record_sentences::{
+    push_fault_sentences, push_other_faults, push_time_racks, push_unread_lines,
+};
 use ref_tiles::Rules;
 use sentence_parts::say_of_line;
 use std::alloc::{AllocError, Global};
 
-/// Appends what explains the verdict on a record, or one of its lines: the verdict line; the line as it is in the file; what is
-/// wrong with it; the words of a play with what each square adds; and the board before it.
+/// Appends what explains the verdict on a record, or one of its lines: the verdict line; the line as it is in the file; which lines are not read
+/// although they look like events; what is wrong with the line; the words of a play with what each square adds; and the board before it.
 ///
 /// It fails only if memory runs out.
 #[tactic(auto, using(crate::proofs::GoingOn::goes_on))]
@@ -55,33 +57,31 @@ fn sentences_of(
     requires { HasItsWalk rules.now list.now case.now }
 {
     let mut text = Vec::new(alloc);
+    let bytes = case.text.as_slice();
     match (&case.read, &case.walk) {
         (Ok(entry), Some(walk)) => {
+            push_unread_lines(alloc, &mut text, bytes)?;
+            push_time_racks(&mut text, bytes)?;
             if let Some(told) = explain(alloc, rules, list, entry, walk, line)? {
                 push_told(&mut text, &told)?;
             }
         }
         (Ok(_), None) => unreachable!(),
-        (Err(fault), _) => push_unread(alloc, &mut text, case.text.as_slice(), *fault)?,
+        (Err(fault), _) => push_faults(alloc, &mut text, bytes, *fault)?,
     }
     Ok(text)
 }
 
-/// Appends why a text is not a record, and what the line of its fault lacks, if that can be found out.
-fn push_unread(
+/// Appends why a text is not a record, what is wrong with its other lines, and which lines are not read although they look like events.
+fn push_faults(
     alloc: Global,
     text: &mut Vec<u8>,
     bytes: &[u8],
     fault: ReadFault,
 ) -> Result<(), AllocError> {
-    push_record_fault(alloc, text, bytes, fault.line, fault.why)?;
-    let mut missing = Vec::new(alloc);
-    push_missing(&mut missing, bytes, fault)?;
-    if let [b' ', sentence @ ..] = missing.as_slice() {
-        text.extend_from_slice(sentence)?;
-        text.push(b'\n')?;
-    }
-    Ok(())
+    push_fault_sentences(alloc, text, bytes, fault)?;
+    push_other_faults(alloc, text, bytes, fault)?;
+    push_unread_lines(alloc, text, bytes)
 }
 
 /// Appends an explanation after its opening: the facts, and what is shown with them.

@@ -3,7 +3,7 @@
 use crate::challenges::push_challenge_fact;
 use crate::orders::push_order_fact;
 use crate::play_faults::push_play_fact;
-use crate::racks::push_rack_fact;
+use crate::racks::{push_left_fact, push_rack_fact};
 use crate::readings::push_reading_fact;
 use crate::scores::push_score_fact;
 use crate::tiles::push_tiles_fact;
@@ -50,7 +50,9 @@ fn push_fact(text: &mut Vec<u8>, players: &Players, fact: &Fact) -> Result<(), A
     match fact {
         Fact::NoEvent | Fact::Legal | Fact::Unsettled | Fact::NotJudged { .. } | Fact::Allowed =>
             push_verdict_fact(text, fact),
-        Fact::Unlisted { .. } | Fact::RacksHidden { .. } => push_whole_fact(text, players, fact),
+        Fact::Unlisted { .. } | Fact::OtherList | Fact::RacksHidden { .. } => {
+            push_whole_fact(text, players, fact)
+        }
         Fact::StandsTwice { .. }
         | Fact::WrongWay { .. }
         | Fact::Missing { .. }
@@ -81,7 +83,8 @@ fn push_fact(text: &mut Vec<u8>, players: &Players, fact: &Fact) -> Result<(), A
         | Fact::WithdrawalScore { .. }
         | Fact::LastRackScore { .. }
         | Fact::OtherScore { .. }
-        | Fact::ElsewhereScore { .. } => push_score_fact(text, players, fact),
+        | Fact::ElsewhereScore { .. }
+        | Fact::TotalFits { .. } => push_score_fact(text, players, fact),
         Fact::WrongTotal { .. }
         | Fact::LeavesOutOwn
         | Fact::LeavesOut { .. }
@@ -98,6 +101,7 @@ fn push_fact(text: &mut Vec<u8>, players: &Players, fact: &Fact) -> Result<(), A
         | Fact::ExchangeRefused { .. }
         | Fact::ExchangeSize { .. }
         | Fact::LastRackSize { .. } => push_tiles_fact(text, players, fact),
+        Fact::LeftOver { .. } => push_left_fact(text, fact),
         Fact::RackTooBig { .. }
         | Fact::TilesShort { .. }
         | Fact::DealtTo { .. }

@@ -20,6 +20,31 @@ fn push_wrong_way(text: &mut Vec<u8>, line: u32, next: u32) -> Result<(), AllocE
     )
 }
 
+/// Appends what is missing: a line with points, or a pass or an exchange.
+fn push_missing_line(
+    text: &mut Vec<u8>,
+    players: &Players,
+    player: Seat,
+    score: i32,
+) -> Result<(), AllocError> {
+    let nick = nick(players, player);
+    if score == 0 {
+        return say(
+            text,
+            &[Part::Say("A pass or an exchange of "), Part::Raw(nick)],
+        );
+    }
+    say(
+        text,
+        &[
+            Part::Say("A line of "),
+            Part::Raw(nick),
+            Part::Say(" with +"),
+            Part::Points(score),
+        ],
+    )
+}
+
 /// Appends that a line seems to be missing.
 fn push_missing(
     text: &mut Vec<u8>,
@@ -29,13 +54,10 @@ fn push_missing(
     before: u32,
     after: u32,
 ) -> Result<(), AllocError> {
+    push_missing_line(text, players, player, score)?;
     say(
         text,
         &[
-            Part::Say("A line of "),
-            Part::Raw(nick(players, player)),
-            Part::Say(" with +"),
-            Part::Points(score),
             Part::Say(" seems to be missing between lines "),
             Part::Line(before),
             Part::Say(" and "),

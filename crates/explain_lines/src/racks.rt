@@ -30,6 +30,33 @@ fn push_too_big(
     text.extend_from_slice(b".\n")
 }
 
+/// The tiles that a line shows, and that are left before it.
+#[derive(Clone, Copy)]
+struct Lack {
+    before: u32,
+    after: u32,
+    kind: Kind,
+    has: usize,
+}
+
+/// Appends how many tiles of a kind there are, if there are too few.
+fn push_too_few(text: &mut Vec<u8>, kind: Kind, has: usize) -> Result<(), AllocError> {
+    if has == 0 {
+        text.extend_from_slice(b"no ")?;
+    } else {
+        say(text, &[Part::Say("only "), Part::Many(has), Part::Say(" ")])?;
+    }
+    say(text, &[Part::Kind(kind), Part::Say(".\n")])
+}
+
+/// Appends that a line shows a whole rack without tiles that are left on it.
+fn push_left_over(text: &mut Vec<u8>, left: &Counts, lack: &Lack) -> Result<(), AllocError> {
+    say_of_line(text, "After line ", lack.before, " ")?;
+    push_tiles(text, left)?;
+    say_of_line(text, " is left, but line ", lack.after, " has ")?;
+    push_too_few(text, lack.kind, lack.has)
+}
+
 /// Appends which tiles leave the rack.
 fn push_leaving(text: &mut Vec<u8>, leaves: &Leaving) -> Result<(), AllocError> {
     match leaves {
@@ -188,6 +215,29 @@ fn push_no_deal(
         push_clash(text, players, lines)?;
     }
     push_exchanges(text, players, exchanges)
+}
+
+/// Appends that a line shows a whole rack without tiles that the lines before it leave there.
+pub fn push_left_fact(text: &mut Vec<u8>, fact: &Fact) -> Result<(), AllocError> {
+    match fact {
+        Fact::LeftOver {
+            before,
+            left,
+            after,
+            kind,
+            has,
+            ..
+        } => {
+            let lack = Lack {
+                before: *before,
+                after: *after,
+                kind: *kind,
+                has: *has,
+            };
+            push_left_over(text, left, &lack)
+        }
+        _ => Ok(()),
+    }
 }
 
 /// Appends a fact about racks.

@@ -67,6 +67,20 @@ fn push_elsewhere(
     text.extend_from_slice(b".\n")
 }
 
+/// Appends that the written total is right with a score.
+fn push_fitting(text: &mut Vec<u8>, score: i32, total: i32) -> Result<(), AllocError> {
+    say(
+        text,
+        &[
+            Part::Say("With "),
+            Part::Points(score),
+            Part::Say(" the total is "),
+            Part::Points(total),
+            Part::Say(", as is written.\n"),
+        ],
+    )
+}
+
 /// Appends a spot, after what separates it from the one before. The spot with number `last`, counted from 1, is the last one.
 fn push_spot(text: &mut Vec<u8>, spot: &Spot, k: usize, last: usize) -> Result<(), AllocError> {
     let front = if k == 0 {
@@ -115,6 +129,7 @@ pub fn push_score_fact(
             spots,
             others,
         } => push_elsewhere(text, *written, spots.as_slice(), *others),
+        Fact::TotalFits { score, total } => push_fitting(text, *score, *total),
         _ => Ok(()),
     }
 }

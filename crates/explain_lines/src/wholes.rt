@@ -2,7 +2,7 @@
 
 use crate::names::nick;
 use crate::spelling::{push_lines, push_words};
-use event_facts::{Fact, UnlistedPlay};
+use event_facts::{Fact, RackPart, UnlistedPlay};
 use gcg_read::Players;
 use sentence_parts::{Part, say};
 use std::alloc::AllocError;
@@ -48,14 +48,43 @@ fn push_plays(
     Ok(())
 }
 
-/// Appends on which turns no rack is shown.
-fn push_hidden(text: &mut Vec<u8>, lines: &[u32], turns: usize) -> Result<(), AllocError> {
-    if turns == 0 {
-        return Ok(());
+/// Appends a rack that is shown in part.
+fn push_part(text: &mut Vec<u8>, part: &RackPart) -> Result<(), AllocError> {
+    say(
+        text,
+        &[
+            Part::Say("Line "),
+            Part::Line(part.line),
+            Part::Say(" shows "),
+            Part::Many(part.shown),
+            Part::Say(" of "),
+            Part::Things(part.has, "tile"),
+            Part::Say(".\n"),
+        ],
+    )
+}
+
+/// Appends the racks that are shown in part.
+fn push_parts(text: &mut Vec<u8>, parts: &[RackPart]) -> Result<(), AllocError> {
+    for part in parts {
+        push_part(text, part)?;
     }
-    if lines.is_empty() {
+    Ok(())
+}
+
+/// Appends that every turn shows its rack, or every turn except those with a part of it.
+fn push_shown(text: &mut Vec<u8>, parts: &[RackPart], turns: usize) -> Result<(), AllocError> {
+    if parts.is_empty() {
         return text.extend_from_slice(b"Every turn shows its rack.\n");
     }
+    if parts.len() == turns {
+        return Ok(());
+    }
+    text.extend_from_slice(b"Every other turn shows its rack.\n")
+}
+
+/// Appends on which turns no rack is shown.
+fn push_hidden(text: &mut Vec<u8>, lines: &[u32], turns: usize) -> Result<(), AllocError> {
     if lines.len() == turns {
         return text.extend_from_slice(b"No turn shows its rack.\n");
     }
@@ -76,6 +105,23 @@ fn push_hidden(text: &mut Vec<u8>, lines: &[u32], turns: usize) -> Result<(), Al
     text.extend_from_slice(b".\n")
 }
 
+/// Appends on which turns no rack is shown, or only a part of it.
+fn push_racks(
+    text: &mut Vec<u8>,
+    lines: &[u32],
+    parts: &[RackPart],
+    turns: usize,
+) -> Result<(), AllocError> {
+    if turns == 0 {
+        return Ok(());
+    }
+    push_parts(text, parts)?;
+    if lines.is_empty() {
+        return push_shown(text, parts, turns);
+    }
+    push_hidden(text, lines, turns)
+}
+
 /// Appends a fact about a record whose events the rules allow.
 pub fn push_whole_fact(
     text: &mut Vec<u8>,
@@ -84,7 +130,14 @@ pub fn push_whole_fact(
 ) -> Result<(), AllocError> {
     match fact {
         Fact::Unlisted { plays } => push_plays(text, players, plays.as_slice()),
-        Fact::RacksHidden { lines, turns } => push_hidden(text, lines.as_slice(), *turns),
+        Fact::OtherList => {
+            text.extend_from_slice(b"Perhaps the game was played with another word list.\n")
+        }
+        Fact::RacksHidden {
+            lines,
+            parts,
+            turns,
+        } => push_racks(text, lines.as_slice(), parts.as_slice(), *turns),
         _ => Ok(()),
     }
 }

@@ -3,7 +3,9 @@ ghost use Rattle.std.specs.Prelude.{◌<◌};
 
 use crate::facts::{FactObject, fact_object};
 use crate::squares::square_name;
-use answer_json::{FaultObject, push_object, push_verdict, text_of, verdict_fields};
+use answer_json::{
+    FaultObject, UnreadObject, push_object, push_verdict, text_of, unread_objects, verdict_fields,
+};
 use call_stages::Verdict;
 use explanations::{Explanation, Picture, Shown};
 use game_board::tile_mark;
@@ -12,6 +14,7 @@ use ref_tiles::Premium;
 use serde::Serialize;
 use shown_plays::{PlayedSquare, PlayedWord, ScoredPlay, ShownSquare};
 use std::alloc::{AllocError, Global};
+use unread_lines::UnreadLine;
 
 /// A square of a word.
 #[derive(Drop, Serialize)]
@@ -65,6 +68,7 @@ struct ExplanationObject<L> {
     board: Option<BoardObject>,
     unknown_since: Option<u32>,
     likely: Option<L>,
+    unread_lines: Vec<UnreadObject>,
 }
 
 /// That a record has no event.
@@ -73,6 +77,7 @@ struct NoGameObject {
     verdict: &'static str,
     line: Option<u32>,
     fault: Option<FaultObject>,
+    unread_lines: Vec<UnreadObject>,
 }
 
 /// The name of a premium.
@@ -245,7 +250,7 @@ fn line_text(alloc: Global, written: Option<&[u8]>) -> Result<Option<String>, Al
 }
 
 /// Appends an explanation: the verdict on the record, the line that is explained as it is in the file, the facts, the words of its play,
-/// the board before it, and the likely repair of the record.
+/// the board before it, the likely repair of the record, and the lines that are not read.
 fn push_told<L: Serialize + Drop>(
     alloc: Global,
     text: &mut Vec<u8>,
@@ -253,6 +258,7 @@ fn push_told<L: Serialize + Drop>(
     written: Option<&[u8]>,
     told: &Explanation<'_>,
     likely: Option<L>,
+    unread: &[UnreadLine],
 ) -> Result<(), AllocError> {
     let fields = verdict_fields(alloc, verdict)?;
     let picture = picture_objects(alloc, &told.picture)?;
@@ -268,12 +274,13 @@ fn push_told<L: Serialize + Drop>(
         board: picture.board,
         unknown_since: picture.unknown_since,
         likely,
+        unread_lines: unread_objects(alloc, unread)?,
     };
     push_object(alloc, text, &object)
 }
 
 /// Appends what explains a record or one of its lines, by the verdict on the record and the line as it is in the file, with the object of the
-/// likely repair of the record, if there is one; or that no event is on the line or after it.
+/// likely repair of the record, if there is one, and the lines that are not read; or that no event is on the line or after it.
 pub fn push_explained<L: Serialize + Drop>(
     alloc: Global,
     text: &mut Vec<u8>,
@@ -281,19 +288,25 @@ pub fn push_explained<L: Serialize + Drop>(
     written: Option<&[u8]>,
     told: Option<&Explanation<'_>>,
     likely: Option<L>,
+    unread: &[UnreadLine],
 ) -> Result<(), AllocError> {
     match told {
         None => push_verdict(alloc, text, &Verdict::BadLine),
-        Some(told) => push_told(alloc, text, verdict, written, told, likely),
+        Some(told) => push_told(alloc, text, verdict, written, told, likely, unread),
     }
 }
 
-/// Appends that a record has no event.
-pub fn push_no_game(alloc: Global, text: &mut Vec<u8>) -> Result<(), AllocError> {
+/// Appends that a record has no event, with the lines that are not read.
+pub fn push_no_game(
+    alloc: Global,
+    text: &mut Vec<u8>,
+    unread: &[UnreadLine],
+) -> Result<(), AllocError> {
     let object = NoGameObject {
         verdict: "no game",
         line: None,
         fault: None,
+        unread_lines: unread_objects(alloc, unread)?,
     };
     push_object(alloc, text, &object)
 }

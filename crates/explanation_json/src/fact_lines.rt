@@ -1,7 +1,7 @@
 //! What lines show of racks, as objects.
 
 use answer_json::{number_of, tiles_of};
-use event_facts::{ClashLine, ExchangeLine, KindLine, Leaving, RackLine};
+use event_facts::{ClashLine, ExchangeLine, KindLine, Leaving, RackLine, RackPart};
 use gcg_read::Seat;
 use serde::Serialize;
 use std::alloc::{AllocError, Global};
@@ -22,6 +22,8 @@ pub struct LineObject {
     #[serde(skip_serializing_if = "Option::is_none")]
     number_played: Option<usize>,
     #[serde(skip_serializing_if = "Option::is_none")]
+    number_held: Option<usize>,
+    #[serde(skip_serializing_if = "Option::is_none")]
     number_exchanged: Option<usize>,
 }
 
@@ -36,6 +38,7 @@ impl LineObject {
             exchanged: None,
             number_shown: None,
             number_played: None,
+            number_held: None,
             number_exchanged: None,
         }
     }
@@ -64,6 +67,14 @@ impl LineObject {
         let mut object = LineObject::of(line.line, line.player);
         object.number_shown = Some(line.shown);
         object.number_played = Some(line.played);
+        object
+    }
+
+    /// A rack that is shown in part.
+    fn of_part(part: &RackPart) -> LineObject {
+        let mut object = LineObject::of(part.line, part.player);
+        object.number_shown = Some(part.shown);
+        object.number_held = Some(part.has);
         object
     }
 
@@ -102,6 +113,15 @@ pub fn kind_lines(alloc: Global, lines: &[KindLine]) -> Result<Vec<LineObject>, 
     let mut objects = Vec::new(alloc);
     for line in lines {
         objects.push(LineObject::of_kind(line))?;
+    }
+    Ok(objects)
+}
+
+/// Racks that are shown in part.
+pub fn part_lines(alloc: Global, parts: &[RackPart]) -> Result<Vec<LineObject>, AllocError> {
+    let mut objects = Vec::new(alloc);
+    for part in parts {
+        objects.push(LineObject::of_part(part))?;
     }
     Ok(objects)
 }

@@ -1,6 +1,8 @@
 //! Facts about an event as objects.
 
-use crate::fact_lines::{LineObject, clash_lines, exchange_lines, kind_lines, rack_lines};
+use crate::fact_lines::{
+    LineObject, clash_lines, exchange_lines, kind_lines, part_lines, rack_lines,
+};
 use crate::fact_names::name_of;
 use crate::squares::square_name;
 use answer_json::{direction_of, number_of, text_of, tiles_of};
@@ -195,9 +197,16 @@ impl FactObject {
             Fact::Unlisted { plays } => {
                 self.plays = Some(plays_of(alloc, plays.as_slice())?);
             }
-            Fact::RacksHidden { lines, turns } => {
+            Fact::RacksHidden {
+                lines,
+                parts,
+                turns,
+            } => {
                 self.take_limit(lines.len(), *turns);
                 self.on_lines = Some(lines_of(alloc, lines.as_slice())?);
+                if !parts.is_empty() {
+                    self.lines = Some(part_lines(alloc, parts.as_slice())?);
+                }
             }
             _ => {}
         }
@@ -421,6 +430,10 @@ impl FactObject {
                 self.places = Some(spots_of(alloc, spots.as_slice())?);
                 self.more_places = Some(*others);
             }
+            Fact::TotalFits { score, total } => {
+                self.score = Some(*score);
+                self.right = Some(*total);
+            }
             _ => {}
         }
         Ok(())
@@ -459,6 +472,29 @@ impl FactObject {
                 self.listed = Some(*listed);
                 self.amounts = Some(numbers_of(alloc, amounts.as_slice())?);
                 self.written = Some(*written);
+            }
+            _ => {}
+        }
+        Ok(())
+    }
+
+    /// Takes the fields of a fact about tiles that are left on a rack.
+    fn take_left(&mut self, alloc: Global, fact: &Fact) -> Result<(), AllocError> {
+        match fact {
+            Fact::LeftOver {
+                player,
+                before,
+                left,
+                after,
+                kind,
+                has,
+                had,
+            } => {
+                self.player = Some(number_of(*player));
+                self.tile = Some(text_of(alloc, &[kind.byte()])?);
+                self.rack = Some(tiles_of(alloc, left)?);
+                self.take_limit(*has, *had);
+                self.on_lines = Some(lines_of(alloc, &[*before, *after])?);
             }
             _ => {}
         }
@@ -519,6 +555,7 @@ pub fn fact_object(alloc: Global, fact: &Fact) -> Result<FactObject, AllocError>
     object.take_play(alloc, fact)?;
     object.take_score(alloc, fact)?;
     object.take_challenge(alloc, fact)?;
+    object.take_left(alloc, fact)?;
     object.take_racks(alloc, fact)?;
     Ok(object)
 }

@@ -13,7 +13,8 @@ use crate::passing::passed_by;
 use call_stages::{Earlier, GameFault};
 use deal_steps::Step;
 use event_facts::{
-    Fact, Scene, dealt_to, no_deal, rack_too_big, tell_rack_slip, tell_rule_fault, tiles_short,
+    Fact, Scene, dealt_to, left_over, no_deal, rack_too_big, tell_rack_slip, tell_rule_fault,
+    tiles_short,
 };
 use game_deal::all_steps;
 use game_rows::Walk;
@@ -55,6 +56,22 @@ fn rack_fact(
         GameFault::TilesShort(kind) => tiles_short(alloc, rules, steps, place, *kind),
         GameFault::NoDeal { .. } => no_deal(alloc, rules, steps, place),
     }
+}
+
+/// What the lines before the event at a place leave on a rack that would have to hold too many tiles, if its line shows the whole rack without it.
+fn left_fact(
+    alloc: Global,
+    rules: &Rules,
+    steps: &[Step],
+    place: usize,
+    fault: &GameFault,
+) -> Result<Option<Fact>, AllocError>
+    ensures { IfOk result (λ fact. IfSome fact (IsRackTrue rules.now steps.now place)) }
+{
+    if !matches!(fault, GameFault::RackTooBig) {
+        return Ok(None);
+    }
+    left_over(alloc, rules, steps, place)
 }
 
 /// The line up to which a deal gives the racks, if no deal gives them up to the event at a place and some deal does before it.
@@ -199,6 +216,8 @@ fn push_rack_facts(
         return Ok(());
     };
     let steps = all_steps(alloc, &passed)?;
+    let left = left_fact(alloc, sheet.rules, steps.as_slice(), place, fault)?;
+    push_some(facts, sheet, place, left)?;
     let fact = rack_fact(alloc, sheet.rules, steps.as_slice(), place, fault)?;
     push_some(facts, sheet, place, fact)?;
     let dealt = dealt_fact(alloc, sheet.rules, steps.as_slice(), place, fault)?;

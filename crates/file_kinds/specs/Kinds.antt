@@ -1,6 +1,7 @@
 -- What a file seems to be, by the signs that it has.
-use Rattle.std.specs.Prelude.{ℕ, Bool, false, not, ◌==◌, ◌&&◌, ◌||◌, List, [], ◌∷◌, length, codes, if◌then◌else◌}
-use Rattle.std.specs.List.{starts_with, list_any}
+use Rattle.std.specs.Prelude.{ℕ, Bool, false, not, ◌==◌, ◌&&◌, ◌||◌, nat_le, List, [], ◌∷◌, length, codes, if◌then◌else◌}
+use Rattle.std.specs.List.{starts_with, list_all, list_any}
+use Rattle.std.specs.Char.{is_ascii_alphabetic}
 use Rattle.text_lines.specs.Lines.{lines_in, is_feed, without_mark}
 use Rattle.text_lines.specs.Fields.{fields_of}
 use Rattle.file_kinds.specs.declared.kinds.FileKind.{FileKind}
@@ -49,6 +50,18 @@ is_indented_event line = not (begins (62 ∷ []) line) && first_begins (62 ∷ [
 abbrev pub has_indented_events : List ℕ → Bool
 has_indented_events text = list_any is_indented_event (lines_in text)
 
+-- empty, or a word of 2 to 15 letters
+abbrev pub is_word_line : List ℕ → Bool
+is_word_line line = length line == 0 || nat_le 2 (length line) && nat_le (length line) 15 && list_all is_ascii_alphabetic line
+
+abbrev pub begins_with_letter : List ℕ → Bool
+begins_with_letter [] = false
+begins_with_letter (byte ∷ bytes) = is_ascii_alphabetic byte
+
+-- a letter at the front, and only such lines
+abbrev pub is_list : List ℕ → Bool
+is_list text = begins_with_letter text && list_all is_word_line (lines_in text)
+
 -- > (62) at the front
 abbrev pub is_event : List ℕ → Bool
 is_event line = begins (62 ∷ []) line
@@ -67,4 +80,5 @@ kind_of text =
     else if is_markup (without_mark text) then kind.Markup
     else if has_returns_alone text then kind.Returns
     else if has_indented_events (without_mark text) then kind.Indented
+    else if is_list (without_mark text) then kind.Words
     else kind.Other

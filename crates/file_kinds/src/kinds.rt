@@ -1,8 +1,9 @@
 //! The kinds of files that are mistaken for records.
 ghost use Rattle.std.specs.Prelude.{◌≡◌, ◌↔◌, IsTrue};
-ghost use Rattle.std.specs.List.{list_any};
+ghost use Rattle.std.specs.List.{list_all, list_any};
+ghost use Rattle.std.specs.Char.{is_ascii_alphabetic};
 ghost use Rattle.text_lines.specs.Lines.{is_feed, lines_in};
-ghost use Rattle.file_kinds.specs.Kinds.{kind_of, is_lexicon, is_gzip, is_zip, is_wide, is_markup, is_return, has_returns_alone, is_indented_event, has_indented_events, is_event, has_events};
+ghost use Rattle.file_kinds.specs.Kinds.{kind_of, is_lexicon, is_gzip, is_zip, is_wide, is_markup, is_return, has_returns_alone, is_indented_event, has_indented_events, is_word_line, begins_with_letter, is_list, is_event, has_events};
 
 use text_lines::{Lines, next_field, without_mark};
 
@@ -25,6 +26,8 @@ pub enum FileKind {
     Returns,
     /// Some line would be an event without the blanks before it.
     Indented,
+    /// It begins with a letter, and its lines are words of 2 to 15 letters, or empty.
+    Words,
     /// It is none of these.
     Other,
 }
@@ -116,6 +119,49 @@ fn has_indented_events(text: &[u8]) -> bool
     false
 }
 
+/// Whether the bytes are letters alone.
+fn are_letters(text: &[u8]) -> bool
+    ensures { result ≡ list_all is_ascii_alphabetic text.now }
+{
+    text.iter().all(u8::is_ascii_alphabetic)
+}
+
+/// Whether a line is empty, or a word of 2 to 15 letters.
+fn is_word_line(line: &[u8]) -> bool
+    ensures { result ≡ is_word_line line.now }
+{
+    line.is_empty() || (2 <= line.len() && line.len() <= 15 && are_letters(line))
+}
+
+/// Whether a text begins with a letter.
+fn begins_with_letter(text: &[u8]) -> bool
+    ensures { result ≡ begins_with_letter text.now }
+{
+    match text {
+        [first, ..] => first.is_ascii_alphabetic(),
+        [] => false,
+    }
+}
+
+/// Whether a text begins with a letter, and each of its lines is empty or a word of 2 to 15 letters.
+fn is_list(text: &[u8]) -> bool
+    ensures { result ≡ is_list text.now }
+{
+    begins_with_letter(text) && are_word_lines(text)
+}
+
+/// Whether each line of a text is empty, or a word of 2 to 15 letters.
+fn are_word_lines(text: &[u8]) -> bool
+    ensures { result ≡ list_all is_word_line (lines_in text.now) }
+{
+    for line in Lines::of(text) {
+        if !is_word_line(line) {
+            return false;
+        }
+    }
+    true
+}
+
 /// Whether a line of a text, after a byte order mark, begins like an event.
 pub fn has_events(text: &[u8]) -> bool
     ensures { result ≡ has_events text.now }
@@ -164,6 +210,8 @@ impl FileKind {
             FileKind::Returns
         } else if has_indented_events(without_mark(text)) {
             FileKind::Indented
+        } else if is_list(without_mark(text)) {
+            FileKind::Words
         } else {
             FileKind::Other
         }
@@ -180,6 +228,8 @@ impl FileKind {
             FileKind::Markup => "it is HTML or another markup",
             FileKind::Returns => "its lines end in CR alone, and not in LF or CR LF",
             FileKind::Indented => "its lines begin with blanks before the >",
+            FileKind::Words =>
+                "it is a word list, and the files are WORDS, LEXICON and GAME, in this order",
             FileKind::Other => "no line begins with >",
         }
     }

@@ -15,7 +15,7 @@ use Rattle.game_answers.specs.declared.answers.EventAnswer.{EventAnswer}
 use Rattle.event_notes.specs.declared.bests.TurnBest.{TurnBest}
 use Rattle.game_answers.specs.Answers.{tiles_in, IsAnswerAt, AreAnswersTo}
 use Rattle.event_notes.specs.Bests.{IsTurnBest}
-use Rattle.game_answers.specs.Given.{given_at}
+use Rattle.score_sheets.specs.Gains.{given_at}
 use Rattle.game_answers.specs.Going.{HasTaken}
 use Rattle.game_answers.specs.Letters.{word_of}
 use Rattle.event_notes.specs.Unlisted.{letters_in, unlisted_of}

@@ -13,7 +13,7 @@ use Rattle.game_report.specs.EventLines.{unlisted_text, line_with, event_line, I
 use Rattle.game_report.proofs.ReportLines.{no_lines, one_more_line}
 use Rattle.game_answers.specs.declared.answers.EventAnswer.{EventAnswer}
 use Rattle.game_answers.specs.Answers.{IsAnswerAt, AreAnswersTo}
-use Rattle.game_answers.specs.Given.{given_at}
+use Rattle.score_sheets.specs.Gains.{given_at}
 use Rattle.event_notes.specs.Tellings.{best_told}
 use Rattle.game_answers.specs.Reports.{line_of, lines_to}
 use Rattle.event_notes.specs.Unlisted.{letters_in}

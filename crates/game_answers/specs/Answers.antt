@@ -8,7 +8,7 @@ use Rattle.game_turns.specs.LatestEvents.{latest_tiles, standing_words}
 use Rattle.game_turns.specs.Tallies.{tally_at}
 use Rattle.game_answers.specs.declared.answers.EventAnswer.{EventAnswer}
 use Rattle.event_notes.specs.Bests.{IsTurnBest}
-use Rattle.game_answers.specs.Given.{given_at}
+use Rattle.score_sheets.specs.Gains.{given_at}
 use Rattle.game_answers.specs.Letters.{word_of}
 use Rattle.event_notes.specs.Unlisted.{letters_in, unlisted_of}
 

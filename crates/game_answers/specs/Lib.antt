@@ -1,4 +1,3 @@
-pub mod Given
 pub mod Letters
 pub mod Answers
 pub mod Reports

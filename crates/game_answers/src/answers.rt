@@ -8,7 +8,7 @@ ghost use Rattle.lex_check.specs.Pairs.{list_in};
 ghost use Rattle.game_notes.specs.Following.{Follows};
 ghost use Rattle.known_bests.specs.Known.{AreKnown};
 ghost use Rattle.game_answers.specs.Going.{HasTaken};
-ghost use Rattle.game_answers.specs.Given.{given_at};
+ghost use Rattle.score_sheets.specs.Gains.{given_at};
 ghost use Rattle.game_answers.specs.Answers.{tiles_in, IsAnswerAt, AreAnswersTo};
 ghost use Rattle.game_answers.specs.Letters.{word_of};
 ghost use Rattle.event_notes.specs.Bests.{IsTurnBest};
@@ -24,6 +24,7 @@ use known_bests::{KnownBests, find_best_of_turn, known_best_of_turn};
 use lex_check::Checked;
 use lex_list::WordList;
 use ref_play::{Play, Word};
+use score_sheets::given_by;
 use std::alloc::{AllocError, Global};
 
 /// What is answered for an event.
@@ -53,11 +54,7 @@ fn given_at(events: &[Event], place: usize, event: &Event) -> i32
     requires { place < length events.now }
     ensures { result ≡ given_at events.now place event.now }
 {
-    if withdraws(event_behind(events, place)) {
-        0
-    } else {
-        event.score.value()
-    }
+    given_by(withdraws(event_behind(events, place)), event.score)
 }
 
 /// What is said of the best play of an event of the record that gave `gave` points, by a search; `machine` is before it. The board beside the game

@@ -5,8 +5,9 @@ ghost use Rattle.devices.specs.Devices.{HasRoom};
 use call_stages::{RulesInput, RulesSource, RunFault, Verdict};
 use command_files::{
     InputFile, Inputs, LexiconFile, RulesFile, STANDARD_OUTPUT, SheetFile, Source, UsedOutput,
-    Words, advise_bad_record, advise_no_game, give_hint, open_inputs, open_rules, open_sheet,
-    rules_front, tell_others, used_rules, used_source, verdict_of, watched,
+    Words, advise_bad_record, advise_no_game, advise_unread, give_hint, open_inputs, open_rules,
+    open_sheet, rack_in_capitals, rules_front, tell_others, used_rules, used_source, verdict_of,
+    watched,
 };
 use command_line::{GameFiles, PlaysAsked};
 use devices::{FromRead, FromWrite, Input, Output};
@@ -152,7 +153,7 @@ fn open_game<'a, R: Runtime + AllocGlobal>(
 fn answer_game<'a, R: Runtime + AllocGlobal>(
     rt: &R,
     files: GameFiles<'a>,
-    task: GameTask<'a>,
+    task: GameTask<'_>,
 ) -> Result<Verdict, Trouble<'a>> {
     let mut inputs = open_game(rt, files)?;
     let mut out = FromWrite::new(watched(rt, io::writer(rt)));
@@ -176,7 +177,7 @@ fn answer_game<'a, R: Runtime + AllocGlobal>(
     Ok(verdict)
 }
 
-/// Says besides a report what is wrong with a file that is not a game.
+/// Says besides a report what is wrong with a file that is not a game, and which of its lines are not read although they look like events.
 fn advise<R: Runtime + AllocGlobal>(rt: &R, verdict: Verdict, name: &str, game: &Front) {
     match verdict {
         Verdict::BadRecord => advise_bad_record(rt, name, game),
@@ -185,6 +186,7 @@ fn advise<R: Runtime + AllocGlobal>(rt: &R, verdict: Verdict, name: &str, game: 
         }
         _ => {}
     }
+    advise_unread(rt, name, game);
 }
 
 /// Judges the game of a record, by the English rules or those of a text; on request a search for a deal settles it. The
@@ -209,21 +211,25 @@ pub fn judge<'a, R: Runtime + AllocGlobal>(
 }
 
 /// Writes the best plays by a rack on a board of a record, by the English rules or those of a text, to standard output.
-/// The files are opened before the rack is looked at.
+/// The files are opened before the rack is looked at, whose letters may be lower case.
 pub fn top<'a, R: Runtime + AllocGlobal>(
     rt: &R,
     files: GameFiles<'a>,
     plays: PlaysAsked<'a>,
 ) -> Result<Verdict, Trouble<'a>> {
-    answer_game(rt, files, top_task(plays))
+    let Ok(rack) = rack_in_capitals(rt.alloc(), plays.rack) else {
+        return Err(Trouble::NoMemory);
+    };
+    let rack = rack.as_ref().map(|tiles| tiles.as_slice());
+    answer_game(rt, files, top_task(plays, rack))
 }
 
-/// The request of a command line for best plays.
-fn top_task<'a>(plays: PlaysAsked<'a>) -> GameTask<'a> {
-    match (plays.rack, plays.number, plays.before) {
-        (Some(rack), None, None) => GameTask::TopAtTheEnd(rack.as_bytes()),
+/// The request of a command line for best plays, with its rack in capitals.
+fn top_task<'t>(plays: PlaysAsked<'_>, rack: Option<&'t [u8]>) -> GameTask<'t> {
+    match (rack, plays.number, plays.before) {
+        (Some(rack), None, None) => GameTask::TopAtTheEnd(rack),
         (rack, number, line) => GameTask::TopBefore {
-            rack: rack.map(|rack| rack.as_bytes()),
+            rack,
             number: number.unwrap_or(USUAL_PLAYS) as usize,
             line,
         },

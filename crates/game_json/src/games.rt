@@ -1,18 +1,21 @@
 //! Judged games as objects.
 
 use crate::events::{EventObject, event_object};
-use answer_json::{FaultObject, push_object, text_unless_empty, verdict_fields};
+use answer_json::{
+    FaultObject, UnreadObject, push_object, text_unless_empty, unread_objects, verdict_fields,
+};
 use game_answers::{GameAnswers, JudgedGame};
 use gcg_read::Player;
 use serde::Serialize;
 use std::alloc::{AllocError, Global};
+use unread_lines::UnreadLine;
 
 /// A player.
 #[derive(Drop, Serialize)]
 struct PlayerObject {
     nick: Option<String>,
     name: Option<String>,
-    left: Option<i64>,
+    left: Option<u64>,
 }
 
 /// A judged game.
@@ -24,13 +27,14 @@ struct JudgedObject {
     ending: Option<&'static str>,
     players: Vec<PlayerObject>,
     events: Vec<EventObject>,
+    unread_lines: Vec<UnreadObject>,
 }
 
 /// A player, with the points that were left.
 fn player_object(
     alloc: Global,
     player: &Player,
-    left: Option<i64>,
+    left: Option<u64>,
 ) -> Result<PlayerObject, AllocError> {
     Ok(PlayerObject {
         nick: text_unless_empty(alloc, player.nick.as_bytes())?,
@@ -68,11 +72,12 @@ fn event_objects(
     Ok(events)
 }
 
-/// Appends a judged game: the verdict, the players, and each event as it is written with what is answered for it.
+/// Appends a judged game: the verdict, the players, each event as it is written with what is answered for it, and the lines that are not read.
 pub fn push_judged_game(
     alloc: Global,
     text: &mut Vec<u8>,
     game: &JudgedGame,
+    unread: &[UnreadLine],
 ) -> Result<(), AllocError> {
     let fields = verdict_fields(alloc, &game.verdict)?;
     let object = JudgedObject {
@@ -82,6 +87,7 @@ pub fn push_judged_game(
         ending: fields.ending,
         players: player_objects(alloc, game)?,
         events: event_objects(alloc, game, game.answers.as_ref())?,
+        unread_lines: unread_objects(alloc, unread)?,
     };
     push_object(alloc, text, &object)
 }

@@ -38,7 +38,13 @@ fn push_name(
     after: &'static str,
 ) -> Result<(), AllocError> {
     let name = name_of(shown, shown.player(seat));
-    page.push(&[Piece::Markup(before), name, Piece::Markup(after)])
+    page.push(&[
+        Piece::Markup(before),
+        Piece::Markup("<bdi>"),
+        name,
+        Piece::Markup("</bdi>"),
+        Piece::Markup(after),
+    ])
 }
 
 /// Appends the first player's name and total, if the record names that player.
@@ -92,7 +98,9 @@ fn push_result(page: &mut PageText, shown: &Shown<'_>) -> Result<(), AllocError>
         Standing::Even => page.push(&[Piece::Markup(words[3])])?,
         Standing::Ahead(seat, by) => page.push(&[
             Piece::Markup(words[0]),
+            Piece::Markup("<bdi>"),
             name_of(shown, shown.player(seat)),
+            Piece::Markup("</bdi>"),
             Piece::Markup(words[1]),
             Piece::Number(i64::from(by)),
             Piece::Markup(words[2]),
@@ -112,9 +120,9 @@ fn push_own(
         Some(said) => page.push(&[
             Piece::Markup("<p class=\"own\">"),
             Piece::Markup(name),
-            Piece::Markup(" by the record: <q>"),
+            Piece::Markup(" by the record: <q><bdi>"),
             Piece::Recorded(said, shown.encoding),
-            Piece::Markup("</q></p>\n"),
+            Piece::Markup("</bdi></q></p>\n"),
         ]),
         None => Ok(()),
     }
@@ -169,9 +177,9 @@ fn push_link(page: &mut PageText, line: &Line<'_>) -> Result<(), AllocError> {
         Piece::Number(i64::from(line.event.line)),
         Piece::Markup("\">Line "),
         Piece::Number(i64::from(line.event.line)),
-        Piece::Markup("</a>: "),
+        Piece::Markup("</a>: <bdi>"),
         Piece::Recorded(line.player.nick.as_bytes(), line.encoding),
-        Piece::Markup(" <b>"),
+        Piece::Markup("</bdi> <b>"),
     ])
 }
 

@@ -3,10 +3,12 @@ ghost use Rattle.std.specs.Prelude.{◌<◌};
 
 use crate::faults::fault_words;
 use crate::heads::{push_start, push_style};
-use archive_lines::Answer;
+use crate::orders::order_key;
+use archive_lines::{Answer, Ending, Lead};
 use page_pieces::{PageText, Piece};
 use percent_encoding::{AsciiSet, NON_ALPHANUMERIC, ascii_set, utf8_percent_encode};
 use std::alloc::{AllocError, Global};
+use std::collections::BTreeMap;
 
 /// The characters that are percent-encoded in the address of a page: all except letters, digits and the slashes between its folders.
 const IN_ADDRESS: AsciiSet = ascii_set!(NON_ALPHANUMERIC.remove(b'/'));
@@ -24,8 +26,8 @@ const ANSWERS: [Answer; 6] = [
 /// A player in the index.
 #[derive(Clone, Copy)]
 pub struct IndexPlayer<'a> {
-    /// The nickname, if there is one.
-    pub nick: Option<&'a str>,
+    /// The name, if there is one: the full name if it is known, and otherwise the nickname.
+    pub name: Option<&'a str>,
     /// The last total, if there is one.
     pub total: Option<i32>,
 }
@@ -37,6 +39,8 @@ pub struct IndexRow<'a> {
     pub game: &'a str,
     /// The path of its page from the folder of the index, if it has a page.
     pub page: Option<&'a str>,
+    /// What the record says as its title, if that is known.
+    pub title: Option<&'a str>,
     /// The answer on it.
     pub answer: Answer,
     /// The line of the fault, if there is one.
@@ -47,14 +51,31 @@ pub struct IndexRow<'a> {
     pub first: IndexPlayer<'a>,
     /// The other one.
     pub second: IndexPlayer<'a>,
+    /// Who is ahead by the last totals.
+    pub lead: Lead,
     /// How many plays stand with a word that is not listed, if that is known.
     pub unlisted: Option<usize>,
+    /// The likely repair of the game in words, if it is known.
+    pub likely: Option<&'a str>,
+    /// What a file without a game seems to be, if that is known.
+    pub seems: Option<&'static str>,
 }
 
-/// The index of many games. It grows by a row for each.
+impl IndexRow<'_> {
+    /// Whether the game is legal and has ended.
+    fn is_complete(&self) -> bool {
+        match self.why {
+            Some(why) => self.answer == Answer::Legal && why == Ending::Complete.name(),
+            None => false,
+        }
+    }
+}
+
+/// The index of many games, in the order of their names. It grows by a row for each.
 #[derive(Drop)]
 pub struct Index {
-    rows: PageText,
+    /// The rows, by what puts them in order.
+    rows: BTreeMap<String, PageText>,
     /// How many games had each answer.
     counts: [usize; 6],
 }
@@ -63,25 +84,22 @@ impl Index {
     /// An index without games.
     pub fn new(alloc: Global) -> Index {
         Index {
-            rows: PageText::new(alloc),
+            rows: BTreeMap::new(alloc),
             counts: [0; 6],
         }
     }
 
     /// Adds the row of a game. If memory runs out, the index stays as it was.
     pub fn add(&mut self, alloc: Global, row: &IndexRow<'_>) -> Result<(), AllocError> {
-        let before = self.rows.len();
-        match push_row(alloc, &mut self.rows, row) {
-            Ok(()) => {
-                let place = place_of(row.answer);
-                self.counts[place] = self.counts[place].saturating_add(1);
-                Ok(())
-            }
-            Err(error) => {
-                self.rows.truncate(before);
-                Err(error)
-            }
+        let mut text = PageText::new(alloc);
+        push_row(alloc, &mut text, row)?;
+        let key = order_key(alloc, row.game, self.rows.len())?;
+        if self.rows.insert(key, text).is_err() {
+            return Err(AllocError);
         }
+        let place = place_of(row.answer);
+        self.counts[place] = self.counts[place].saturating_add(1);
+        Ok(())
     }
 
     /// The bytes of the index.
@@ -91,7 +109,9 @@ impl Index {
         let mut head = PageText::new(alloc);
         push_head(&mut head, &self.counts)?;
         let mut whole = Vec::from_slice(alloc, head.as_slice())?;
-        whole.extend_from_slice(self.rows.as_slice())?;
+        for row in self.rows.values() {
+            whole.extend_from_slice(row.as_slice())?;
+        }
         whole.extend_from_slice(b"</tbody>\n</table>\n</main>\n</body>\n</html>\n")?;
         Ok(whole)
     }
@@ -159,7 +179,7 @@ fn push_head(page: &mut PageText, counts: &[usize; 6]) -> Result<(), AllocError>
         push_count(page, *answer, counts[place_of(*answer)])?;
     }
     page.push(&[Piece::Markup(
-        "</ul>\n</header>\n<main>\n<table class=\"sheet\">\n<thead>\n<tr><th>Game</th><th>Verdict</th><th>Player 1</th><th class=\"num\">Total</th><th>Player 2</th><th class=\"num\">Total</th></tr>\n</thead>\n<tbody>\n",
+        "</ul>\n</header>\n<main>\n<table class=\"sheet\">\n<thead>\n<tr><th>Game</th><th>Verdict</th><th>Player 1</th><th class=\"num\">Total</th><th>Player 2</th><th class=\"num\">Total</th><th>Result</th></tr>\n</thead>\n<tbody>\n",
     )])
 }
 
@@ -171,9 +191,11 @@ fn push_row(alloc: Global, page: &mut PageText, row: &IndexRow<'_>) -> Result<()
         Piece::Markup("<td class=\"gm\">"),
     ])?;
     push_link(alloc, page, row)?;
+    push_said(page, "<p class=\"ti\"><bdi>", row.title, "</bdi></p>")?;
     push_answer(page, row)?;
     push_player(page, &row.first)?;
     push_player(page, &row.second)?;
+    push_result(page, row)?;
     page.push(&[Piece::Markup("</tr>\n")])
 }
 
@@ -197,7 +219,24 @@ fn push_link(alloc: Global, page: &mut PageText, row: &IndexRow<'_>) -> Result<(
     page.push(&[Piece::Text(row.game.as_bytes()), Piece::Markup("</a>")])
 }
 
-/// Appends the answer on a game.
+/// Appends a text between two pieces of markup, if there is one.
+fn push_said(
+    page: &mut PageText,
+    before: &'static str,
+    said: Option<&str>,
+    after: &'static str,
+) -> Result<(), AllocError> {
+    match said {
+        Some(said) => page.push(&[
+            Piece::Markup(before),
+            Piece::Text(said.as_bytes()),
+            Piece::Markup(after),
+        ]),
+        None => Ok(()),
+    }
+}
+
+/// Appends the answer on a game, and its likely repair.
 fn push_answer(page: &mut PageText, row: &IndexRow<'_>) -> Result<(), AllocError> {
     page.push(&[
         Piece::Markup("</td><td class=\"vd\"><b>"),
@@ -211,18 +250,21 @@ fn push_answer(page: &mut PageText, row: &IndexRow<'_>) -> Result<(), AllocError
     if let Some(why) = row.why {
         push_why(page, why)?;
     }
-    push_unlisted(page, row.unlisted.unwrap_or(0))
+    push_said(page, ": ", row.seems, "")?;
+    push_unlisted(page, row.unlisted.unwrap_or(0))?;
+    push_said(page, "<p class=\"lk\">likely: ", row.likely, "</p>")?;
+    page.push(&[Piece::Markup("</td>")])
 }
 
 /// Appends how many plays stand with a word that is not listed, if any do.
 fn push_unlisted(page: &mut PageText, plays: usize) -> Result<(), AllocError> {
     match plays {
-        0 => page.push(&[Piece::Markup("</td>")]),
-        1 => page.push(&[Piece::Markup(", 1 play with an unlisted word</td>")]),
+        0 => Ok(()),
+        1 => page.push(&[Piece::Markup(", 1 play with an unlisted word")]),
         _ => page.push(&[
             Piece::Markup(", "),
             Piece::Many(plays),
-            Piece::Markup(" plays with unlisted words</td>"),
+            Piece::Markup(" plays with unlisted words"),
         ]),
     }
 }
@@ -243,13 +285,45 @@ fn push_why(page: &mut PageText, why: &str) -> Result<(), AllocError> {
 
 /// Appends a player and the last total.
 fn push_player(page: &mut PageText, player: &IndexPlayer<'_>) -> Result<(), AllocError> {
-    page.push(&[
-        Piece::Markup("<td class=\"pl\">"),
-        Piece::Text(player.nick.unwrap_or("").as_bytes()),
-        Piece::Markup("</td><td class=\"num\">"),
-    ])?;
+    page.push(&[Piece::Markup("<td class=\"pl\">")])?;
+    push_said(page, "<bdi>", player.name, "</bdi>")?;
+    page.push(&[Piece::Markup("</td><td class=\"num\">")])?;
     match player.total {
         Some(total) => page.push(&[Piece::Number(i64::from(total)), Piece::Markup("</td>")]),
         None => page.push(&[Piece::Markup("</td>")]),
     }
+}
+
+/// Appends who won or is ahead, and by how many points. A player without a name is called `unnamed`.
+fn push_lead(
+    page: &mut PageText,
+    row: &IndexRow<'_>,
+    player: &IndexPlayer<'_>,
+    unnamed: &'static str,
+    by: i64,
+) -> Result<(), AllocError> {
+    match player.name {
+        Some(_) => push_said(page, "<bdi>", player.name, "</bdi>")?,
+        None => page.push(&[Piece::Markup(unnamed)])?,
+    }
+    page.push(&[
+        Piece::Markup(if row.is_complete() {
+            " won by "
+        } else {
+            " is ahead by "
+        }),
+        Piece::Number(by),
+    ])
+}
+
+/// Appends the result of a game: who won or is ahead, and by how many points.
+fn push_result(page: &mut PageText, row: &IndexRow<'_>) -> Result<(), AllocError> {
+    page.push(&[Piece::Markup("<td class=\"ld\">")])?;
+    match row.lead {
+        Lead::First(by) => push_lead(page, row, &row.first, "player 1", by)?,
+        Lead::Second(by) => push_lead(page, row, &row.second, "player 2", by)?,
+        Lead::Even if row.is_complete() => page.push(&[Piece::Markup("a tie")])?,
+        Lead::Even => {}
+    }
+    page.push(&[Piece::Markup("</td>")])
 }

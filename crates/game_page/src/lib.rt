@@ -14,6 +14,7 @@ mod heads;
 mod indexes;
 mod likely;
 mod lines;
+mod orders;
 mod pages;
 mod panels;
 mod plays;

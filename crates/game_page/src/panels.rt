@@ -76,9 +76,9 @@ pub fn plus(points: i32) -> &'static str {
 /// Appends whose event it is.
 fn push_who(page: &mut PageText, line: &Line<'_>) -> Result<(), AllocError> {
     page.push(&[
-        Piece::Markup("<p class=\"now\">"),
+        Piece::Markup("<p class=\"now\"><bdi>"),
         Piece::Recorded(line.player.nick.as_bytes(), line.encoding),
-        Piece::Markup(" <b>"),
+        Piece::Markup("</bdi> <b>"),
     ])
 }
 
@@ -127,9 +127,9 @@ fn push_next_rack(page: &mut PageText, shown: &Shown<'_>, place: usize) -> Resul
     };
     let nick = shown.player(event.player).nick.as_bytes();
     page.push(&[
-        Piece::Markup("<p class=\"rack\"><span>"),
+        Piece::Markup("<p class=\"rack\"><span><bdi>"),
         Piece::Recorded(nick, shown.encoding),
-        Piece::Markup(" to go:</span> "),
+        Piece::Markup("</bdi> to go:</span> "),
     ])?;
     push_tiles(page, rack)
 }

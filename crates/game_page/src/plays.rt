@@ -3,6 +3,8 @@
 use game_board::tile_mark;
 use gcg_read::{Event, EventKind};
 use page_pieces::{PageText, Piece};
+use ref_play::Notation;
+use ref_tiles::{Symbol, Tile};
 use score_sheets::{LaidPlay, PlayedTile};
 use std::alloc::AllocError;
 
@@ -67,6 +69,58 @@ fn push_play(
             push_word(page, play)
         }
     }
+}
+
+/// Appends a square of a play that is not laid, after a bracket if there is one: the letter of the tile that lies `under` the play there, or the
+/// symbol that the play puts there.
+fn push_symbol(
+    page: &mut PageText,
+    was_new: bool,
+    symbol: Symbol,
+    under: Option<Tile>,
+) -> Result<(), AllocError> {
+    let letter = match under {
+        Some(tile) => tile_mark(&tile),
+        None => symbol.byte(),
+    };
+    let text = [letter];
+    page.push(&[
+        Piece::Markup(bracket(was_new, under.is_none())),
+        Piece::Text(&text),
+    ])
+}
+
+/// What lies under a play at a place of its word.
+fn cell_at(under: &[Option<Tile>], place: usize) -> Option<Tile> {
+    match under.get(place) {
+        Some(cell) => *cell,
+        None => None,
+    }
+}
+
+/// Appends the word of a play that is not laid, with what lies under it. Tiles that are on the board are in brackets.
+fn push_unlaid(
+    page: &mut PageText,
+    word: &[Symbol],
+    under: &[Option<Tile>],
+) -> Result<(), AllocError> {
+    let mut was_new = true;
+    for (place, symbol) in word.iter().enumerate() {
+        let cell = cell_at(under, place);
+        push_symbol(page, was_new, *symbol, cell)?;
+        was_new = cell.is_none();
+    }
+    page.push(&[Piece::Markup(bracket(was_new, true))])
+}
+
+/// Appends a play that is not laid, with what lies under it: where it begins, and its word.
+pub fn push_notation(
+    page: &mut PageText,
+    written: &Notation,
+    under: &[Option<Tile>],
+) -> Result<(), AllocError> {
+    page.push(&[Piece::Play(written.at, written.dir, &[])])?;
+    push_unlaid(page, written.word.as_slice(), under)
 }
 
 /// Appends what happened in an event. `laid` is its play as it lies on the board, if it does.

@@ -3,12 +3,13 @@
 use crate::heads::{is_named, name_of};
 use crate::lines::Line;
 use crate::panels::{plus, push_panel};
-use crate::plays::push_event;
+use crate::plays::{push_event, push_notation};
 use crate::showing::Shown;
 use event_notes::{BestPlay, SpelledWord, TurnBest};
 use gcg_read::{Points, Seat};
 use page_pieces::{PageText, Piece};
 use record_words::Note;
+use ref_tiles::Tile;
 use score_sheets::SheetRow;
 use std::alloc::AllocError;
 
@@ -74,9 +75,9 @@ fn push_start(page: &mut PageText, line: &Line<'_>) -> Result<(), AllocError> {
         Piece::Markup(class_of(line)),
         Piece::Markup("<td class=\"no\">"),
         Piece::Number(i64::from(line.event.line)),
-        Piece::Markup("</td><td class=\"who\">"),
+        Piece::Markup("</td><td class=\"who\"><bdi>"),
         Piece::Recorded(line.player.nick.as_bytes(), line.encoding),
-        Piece::Markup("</td>"),
+        Piece::Markup("</bdi></td>"),
     ])
 }
 
@@ -136,33 +137,38 @@ fn push_written(page: &mut PageText, line: &Line<'_>) -> Result<(), AllocError> 
     }
 }
 
-/// Appends a best play that scores more or less than the turn did.
-fn push_other_best(page: &mut PageText, best: &BestPlay) -> Result<(), AllocError> {
-    let written = &best.written;
-    page.push(&[
-        Piece::Play(written.at, written.dir, written.word.as_slice()),
-        Piece::Markup(" "),
-        Piece::Number(i64::from(best.score)),
-    ])
+/// Appends a best play and its score. What is on its squares before it is laid is `under` it.
+fn push_best_play(
+    page: &mut PageText,
+    best: &BestPlay,
+    under: &[Option<Tile>],
+) -> Result<(), AllocError> {
+    push_notation(page, &best.written, under)?;
+    page.push(&[Piece::Markup(" "), Piece::Number(i64::from(best.score))])
 }
 
 /// Appends what is said of the best play of an event.
-fn push_best(page: &mut PageText, best: &TurnBest) -> Result<(), AllocError> {
+fn push_best(
+    page: &mut PageText,
+    best: &TurnBest,
+    under: &[Option<Tile>],
+) -> Result<(), AllocError> {
     match best {
         TurnBest::NoTurn => Ok(()),
         TurnBest::NotShown => page.push(&[Piece::Markup("rack not shown")]),
         TurnBest::NoPlay => page.push(&[Piece::Markup("none")]),
-        TurnBest::Best(best) if best.more == 0 => page.push(&[Piece::Markup("best")]),
-        TurnBest::Best(best) => push_other_best(page, best),
+        TurnBest::Best(best) => push_best_play(page, best, under),
     }
 }
 
-/// Appends how many points more the best play of an event would have given, if it would have given more.
+/// Appends how many points more the best play of an event would have given, or that it would have given as many; nothing if it would have given
+/// fewer.
 fn push_more(page: &mut PageText, line: &Line<'_>) -> Result<(), AllocError> {
     match line.best() {
         Some(best) if best.more > 0 => {
             page.push(&[Piece::Markup("+"), Piece::Number(best.more)])
         }
+        Some(best) if best.more == 0 => page.push(&[Piece::Markup("equal")]),
         _ => Ok(()),
     }
 }
@@ -171,7 +177,7 @@ fn push_more(page: &mut PageText, line: &Line<'_>) -> Result<(), AllocError> {
 fn push_best_cells(page: &mut PageText, line: &Line<'_>) -> Result<(), AllocError> {
     page.push(&[Piece::Markup("<td class=\"bp\">")])?;
     if let Some(best) = &line.row.best {
-        push_best(page, best)?;
+        push_best(page, best, line.row.under.as_slice())?;
     }
     page.push(&[Piece::Markup("</td><td class=\"num mo\">")])?;
     push_more(page, line)?;
@@ -236,9 +242,9 @@ fn push_row(
 /// Appends a note.
 fn push_note(page: &mut PageText, shown: &Shown<'_>, note: &Note<'_>) -> Result<(), AllocError> {
     page.push(&[
-        Piece::Markup("<tr class=\"note\"><td colspan=\"8\">"),
+        Piece::Markup("<tr class=\"note\"><td colspan=\"8\"><bdi>"),
         Piece::Recorded(note.text, shown.encoding),
-        Piece::Markup("</td></tr>\n"),
+        Piece::Markup("</bdi></td></tr>\n"),
     ])
 }
 
@@ -264,7 +270,7 @@ fn push_notes(
 /// Appends the name of a player, before how much more the best plays would have given.
 fn push_gainer(page: &mut PageText, shown: &Shown<'_>, seat: Seat) -> Result<(), AllocError> {
     let name = name_of(shown, shown.player(seat));
-    page.push(&[name, Piece::Markup(" <b>")])
+    page.push(&[Piece::Markup("<bdi>"), name, Piece::Markup("</bdi> <b>")])
 }
 
 /// Appends how much more the best plays of a player would have given together.

@@ -13,7 +13,7 @@ p{margin:.2rem 0}\n\
 a{color:var(--link)}\n\
 .up{font-size:.9rem}.result{color:var(--faint)}.own{font-size:.9rem}\n\
 .verdict{border-left:.4rem solid;background:var(--card);padding:.5rem .8rem;margin:.6rem 0 1rem;border-radius:.3rem;box-shadow:0 0 0 1px var(--line)}\n\
-.verdict h2{margin:0}.why{white-space:pre-line}.likely{margin-top:.5rem}.legal{border-color:var(--good)}.illegal{border-color:var(--bad)}.unsettled{border-color:var(--open)}\n\
+.verdict h2{margin:0}.why{white-space:pre-line;unicode-bidi:plaintext}.likely{margin-top:.5rem}.legal{border-color:var(--good)}.illegal{border-color:var(--bad)}.unsettled{border-color:var(--open)}\n\
 .sum{margin:.3rem 0 0;padding-left:1.2rem;font-size:.9rem}\n\
 .board{--c:min(2.15rem,calc((100vw - 2.9rem)/15.7));border-collapse:separate;border-spacing:1px;background:var(--field);border-radius:.3rem;padding:2px;font-size:max(calc(var(--c)*.33),.5rem);line-height:1;table-layout:fixed;overflow-wrap:normal}\n\
 .board td,.board th{width:var(--c);height:var(--c);padding:0;text-align:center;vertical-align:middle;white-space:nowrap}\n\
@@ -38,9 +38,9 @@ a{color:var(--link)}\n\
 .sheet>thead>tr>*{border-top:0;font-size:.78rem;line-height:1.2;vertical-align:bottom;color:var(--faint);font-weight:600}\n\
 .sheet>*>tr>.num{text-align:right;font-variant-numeric:tabular-nums;white-space:nowrap}\n\
 .sheet>tbody>tr:hover{background:var(--cell)}\n\
-.no,.who,.bp{color:var(--faint)}.who{max-width:6rem;overflow:hidden;text-overflow:ellipsis;white-space:nowrap}\n\
+.no,.who,.bp{color:var(--faint)}.who,.play,.bp,.un,.sb{overflow-wrap:break-word}.who{max-width:8rem;overflow-wrap:anywhere}\n\
 .play{position:relative}.play a{color:inherit;text-decoration:none;font-weight:600}.play a::after{content:\"\";position:absolute;inset:0}.play a:hover{text-decoration:underline}\n\
-.rk{font-family:ui-monospace,monospace;font-size:.82rem;white-space:nowrap}.bp{white-space:nowrap}\n\
+.rk{font-family:ui-monospace,monospace;font-size:.82rem;white-space:nowrap}\n\
 .back .play a{text-decoration:line-through}.other .play a{font-weight:400;font-style:italic}\n\
 .tag{font-size:.72rem;font-weight:600;border:1px solid;border-radius:.8rem;padding:0 .45rem;white-space:nowrap}.bingo{color:var(--good)}.phony,.wrong,.sb,.un{color:var(--bad)}.sb{font-weight:600}\n\
 .sheet>tbody>.fault>*{border-top:2px solid var(--bad);border-bottom:2px solid var(--bad)}\n\
@@ -51,12 +51,20 @@ a{color:var(--link)}\n\
 .sums,footer{color:var(--faint);font-size:.85rem;margin-top:.6rem}\n\
 .counts{display:flex;flex-wrap:wrap;gap:.3rem 1.2rem;list-style:none;padding:0;margin:.5rem 0 1rem;font-weight:600}\n\
 .is-legal>.vd b,li.is-legal{color:var(--good)}.is-illegal>.vd b,li.is-illegal{color:var(--bad)}.is-unsettled>.vd b,li.is-unsettled{color:var(--open)}.is-none>.vd b,li.is-none{color:var(--faint)}\n\
-.index small{color:var(--faint);white-space:nowrap}.index .gm,.index .pl{overflow-wrap:anywhere}.index .gm{min-width:8rem}.index .pl{min-width:4rem}\n\
+.index small{color:var(--faint)}.index .gm,.index .pl,.index .ld,.index .vd{overflow-wrap:anywhere}.index .gm,.index .vd{min-width:8rem}.index .pl,.index .ld{min-width:4rem}\n\
+.ti,.lk{margin:0;font-size:.85rem}.ti{color:var(--faint)}\n\
 @media screen and (min-width:70rem){\n\
 .game{padding-left:33.6rem;max-width:none;margin:0;padding-right:max(1.2rem,calc(100vw - 82rem))}\n\
 .board{--c:1.95rem}\n\
 .end,.sheet>tbody>tr:target>.pos{position:fixed;left:1.2rem;top:1rem;width:31.4rem;max-height:calc(100vh - 2rem)}\n\
 html{scroll-padding-top:35vh}.end{overflow-y:auto}.sheet>tbody>tr:target>.pos{height:calc(100vh - 2rem);max-height:none}\n\
+.game main{overflow-x:auto;padding:1px}\n\
+}\n\
+@media screen and (min-width:70rem) and (max-width:92rem){\n\
+.game{padding-left:27.8rem}\n\
+.board{--c:1.58rem}\n\
+.end,.sheet>tbody>tr:target>.pos{width:25.8rem}\n\
+.game .sheet{font-size:.88rem}.game .sheet>*>tr>*{padding:.28rem .2rem}\n\
 }\n\
 @media screen and (max-width:69.99rem){\n\
 .game{max-width:46rem}\n\
@@ -67,25 +75,29 @@ tr:target .board{--c:min(2.15rem,calc((100vw - 2.4rem)/15.8),calc(48vh/16));marg
 tr:target .nav a,tr:target .nav span{padding:0 .2rem}tr:target .now{margin:0 0 .1rem}\n\
 tr:target .bag{font-size:.75rem;line-height:1.3;margin:.2rem 0 0}tr:target .bag span{display:inline}tr:target .rack{margin:.2rem 0 0}\n\
 .game .sheet>thead{display:none}.game .sheet,.game .sheet>tbody{display:block}\n\
-.game .sheet>tbody>tr{display:grid;grid-template-columns:2rem 3.6rem 1fr auto 3rem;border-top:1px solid var(--line);padding:.25rem .3rem}\n\
+.game .sheet>tbody>tr{display:grid;grid-template-columns:2rem minmax(3.6rem,auto) 1fr auto 3.2rem;border-top:1px solid var(--line);padding:.25rem .3rem}\n\
 .game .sheet>tbody>tr>td{border:0;padding:.05rem .25rem}\n\
 .no{grid-column:1}.game .who{grid-column:2}.play{grid-column:3}.sc{grid-column:4}.to{grid-column:5}\n\
-.rk{grid-row:2;grid-column:1/4}.bp{grid-row:2;grid-column:3/5;text-align:right!important;font-size:.85rem}.mo{grid-row:2;grid-column:5;font-size:.85rem}\n\
-.un{grid-row:3;grid-column:1/4}.sb{grid-row:3;grid-column:3/6;text-align:right!important}.un:empty,.sb:empty{display:none}\n\
+.rk{grid-row:2;grid-column:1/3}.bp{grid-row:2;grid-column:3/5;text-align:right!important;font-size:.85rem}.mo{grid-row:2;grid-column:5;font-size:.85rem}\n\
+.un{grid-row:3;grid-column:1/6}.sb{grid-row:4;grid-column:1/6}.un:empty,.sb:empty{display:none}\n\
+.rk:not(:empty)::before,.bp:not(:empty)::before,.un:not(:empty)::before,.sb:not(:empty)::before{color:var(--faint);font:400 .75rem system-ui,sans-serif}\n\
+.rk:not(:empty)::before{content:\"rack \"}.bp:not(:empty)::before{content:\"best \"}.un:not(:empty)::before{content:\"not in the list: \"}.sb:not(:empty)::before{content:\"should be: \"}\n\
 .game .sheet>tbody>.fault{border:2px solid var(--bad)}.sheet>tbody>.note>td{grid-column:1/6}\n\
 }\n\
 @media screen and (max-width:44rem){\n\
 .index .sheet>thead{display:none}.index .sheet,.index .sheet>tbody{display:block}\n\
 .index .sheet>tbody>tr{display:grid;grid-template-columns:1fr auto;padding:.35rem .5rem;border-top:1px solid var(--line)}\n\
-.index .sheet>tbody>tr>td{border:0;padding:.05rem 0}.index .gm,.index .vd{grid-column:1/3}\n\
+.index .sheet>tbody>tr>td{border:0;padding:.05rem 0}.index .gm,.index .vd,.index .ld{grid-column:1/3}.index .ld:empty{display:none}\n\
 }\n\
 @media print{\n\
-@page{size:A4;margin:1.2cm}\n\
+@page{margin:1.2cm}\n\
 html{font-size:8pt}\n\
 body{padding:0;max-width:none;color:#000;background:#fff}\n\
 .sheet>tbody>tr>.pos,.nav,.up{display:none!important}\n\
 .verdict{margin:.3rem 0 .6rem;print-color-adjust:exact;-webkit-print-color-adjust:exact}\n\
-main{columns:2;column-gap:.6cm}.end{break-inside:avoid;margin-bottom:.6rem}\n\
+.game main{columns:2;column-gap:.6cm}.end{break-inside:avoid;margin-bottom:.6rem}\n\
 .board{--c:.53cm;print-color-adjust:exact;-webkit-print-color-adjust:exact}\n\
 .sheet{box-shadow:none;font-size:7pt}.sheet>*>tr>*{padding:.02cm .08cm}.sheet>thead>tr>*,.rk{font-size:6pt}.tag{font-size:5.5pt}.sheet tr{break-inside:avoid}\n\
+.game .sheet{font-size:6.5pt}.game .sheet>*>tr>*{padding:.02cm .05cm}.bp{font-size:6pt}\n\
+.who,.play,.bp,.un,.sb,.note>td{overflow-wrap:anywhere;white-space:normal}.who{max-width:2cm}\n\
 }\n";

@@ -4,6 +4,7 @@ use crate::items::write_missing;
 use crate::limits::Limit;
 use crate::racks::RackHint;
 use std::fmt;
+use text_lines::without_mark;
 
 /// What is known of the inputs of a call.
 #[derive(Clone, Copy, Debug)]
@@ -46,6 +47,8 @@ pub enum Hint<'a> {
     OtherList { words: &'a str, lexicon: &'a str },
     /// A lexicon is given as the word list.
     NoList { words: &'a str },
+    /// A game record is given as the word list.
+    Record { words: &'a str },
 }
 
 impl<'a> Hint<'a> {
@@ -79,6 +82,8 @@ impl<'a> Hint<'a> {
         let Known { words, lexicon, .. } = *known;
         if line.starts_with(b"bad word list") && is_lexicon(known.words_front) {
             Some(Hint::NoList { words })
+        } else if line.starts_with(b"bad word list") && is_record(known.words_front) {
+            Some(Hint::Record { words })
         } else if is_of_other_list(line) {
             Some(Hint::OtherList { words, lexicon })
         } else {
@@ -90,6 +95,15 @@ impl<'a> Hint<'a> {
 /// Whether a text begins like a compiled lexicon.
 fn is_lexicon(text: &[u8]) -> bool {
     text.starts_with(b"GAD1") || text.starts_with(b"GAD2")
+}
+
+/// Whether a text begins like a game record: with an event, or with a pragma.
+fn is_record(text: &[u8]) -> bool {
+    match without_mark(text) {
+        [b'>', ..] => true,
+        [b'#', letter, ..] => letter.is_ascii_lowercase(),
+        _ => false,
+    }
 }
 
 /// Whether the line of a fault says that a lexicon is that of another list.
@@ -116,6 +130,10 @@ impl fmt::Display for Hint<'_> {
             Hint::NoList { words } => write!(
                 f,
                 "{words} is a compiled lexicon and no word list: the two names are the wrong way round"
+            ),
+            Hint::Record { words } => write!(
+                f,
+                "{words} is a game record and no word list: the files are WORDS, LEXICON and GAME, in this order"
             ),
         }
     }

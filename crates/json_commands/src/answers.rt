@@ -12,8 +12,9 @@ use crate::explain_answers::explain_in_json;
 use crate::repairing::repair_in_json;
 use call_stages::{Question, RunFault, ask};
 use command_files::{
-    GivenFiles, RulesFile, SheetFile, Told, UsedOutput, Words, given_up, open_inputs, open_sheet,
-    refuse_in_json, tell_others, told_in_json, used_source, write,
+    GivenFiles, RulesFile, SheetFile, Told, UsedOutput, Words, advise_unread, given_up,
+    open_inputs, open_sheet, refuse_in_json, tell_others, told_in_json, unread_in, used_source,
+    write,
 };
 use command_line::GameFiles;
 use devices::{FromRead, Input};
@@ -21,7 +22,7 @@ use engine::{Judging, TurnPlays};
 use exit_statuses::{Exit, Trouble};
 use game_answers::{FoundPlays, JudgedGame, judge_game, top_plays};
 use game_json::{push_found_plays, push_judged_game};
-use std::alloc::Global;
+use std::alloc::{AllocError, Global};
 use std::io::Read;
 use std::rt::Runtime;
 
@@ -40,15 +41,27 @@ pub enum AnswerTask {
     Repair(usize),
 }
 
+/// The object of a judged game, with the lines of its record that are not read.
+fn judged_text<S: Read + Drop>(
+    alloc: Global,
+    game: &JudgedGame,
+    sheet: &SheetFile<S>,
+) -> Result<Vec<u8>, AllocError> {
+    let unread = unread_in(alloc, sheet)?;
+    let mut text = Vec::new(alloc);
+    push_judged_game(alloc, &mut text, game, unread.as_slice())?;
+    Ok(text)
+}
+
 /// Writes a judged game.
-fn tell_judged<R: Runtime + AllocGlobal>(
+fn tell_judged<R: Runtime + AllocGlobal, S: Read + Drop>(
     rt: &R,
     game: &JudgedGame,
+    sheet: &SheetFile<S>,
 ) -> Result<Exit, Trouble<'static>> {
-    let mut text = Vec::new(rt.alloc());
-    if push_judged_game(rt.alloc(), &mut text, game).is_err() {
+    let Ok(text) = judged_text(rt.alloc(), game, sheet) else {
         return Err(Trouble::NoMemory);
-    }
+    };
     write(rt, text.as_slice())?;
     Ok(Exit::from(game.verdict))
 }
@@ -65,7 +78,7 @@ fn judge<R: Runtime + AllocGlobal, F: Read + Drop, S: Read + Drop>(
         (IsValueTold (IsJudgedGameOf question given.now.rules.now (list_in given.now.pair.now))) result }
 {
     match judge_game(rt.alloc(), given.rules, given.pair, game, question) {
-        Ok(Ok(judged)) => Ok(Ok(tell_judged(rt, &judged))),
+        Ok(Ok(judged)) => Ok(Ok(tell_judged(rt, &judged, game))),
         Ok(Err(decision)) => Ok(Err(decision)),
         Err(fault) => Err(fault),
     }
@@ -162,6 +175,7 @@ fn answer_files<'a, R: Runtime + AllocGlobal>(
         &mut game,
     );
     tell_others(rt, files.pair.words.name, &inputs.words);
+    advise_unread(rt, files.game, game.inner().front());
     match answer {
         Ok(Ok(told)) => told,
         Ok(Err(decision)) => refuse_in_json(rt, &decision),

@@ -13,18 +13,27 @@ use command_files::{GivenFiles, SheetFile, Told, write};
 use devices::Input;
 use exit_statuses::{Exit, Trouble, exit_of_audit};
 use sheet_json::push_audit_answer;
+use std::alloc::{AllocError, Global};
 use std::io::Read;
 use std::rt::Runtime;
+use unread_lines::unread_lines;
+
+/// The object of an audit, with the lines of the sheet that are not read.
+fn audit_text(alloc: Global, answer: &AuditAnswer) -> Result<Vec<u8>, AllocError> {
+    let unread = unread_lines(alloc, answer.audit.text.as_slice())?;
+    let mut text = Vec::new(alloc);
+    push_audit_answer(alloc, &mut text, answer, unread.as_slice())?;
+    Ok(text)
+}
 
 /// Writes an audit.
 fn tell_audit<R: Runtime + AllocGlobal>(
     rt: &R,
     answer: &AuditAnswer,
 ) -> Result<Exit, Trouble<'static>> {
-    let mut text = Vec::new(rt.alloc());
-    if push_audit_answer(rt.alloc(), &mut text, answer).is_err() {
+    let Ok(text) = audit_text(rt.alloc(), answer) else {
         return Err(Trouble::NoMemory);
-    }
+    };
     write(rt, text.as_slice())?;
     Ok(exit_of_audit(&answer.audit))
 }

@@ -2,23 +2,37 @@
 
 use call_stages::{RulesSource, Verdict};
 use command_files::{
-    UsedOutput, given_up, open_rules, open_sheet, refuse_in_json, told_in_json, used_rules,
-    used_source, write,
+    SheetFile, UsedOutput, advise_unread, given_up, open_rules, open_sheet, refuse_in_json,
+    told_in_json, unread_in, used_rules, used_source, write,
 };
 use exit_statuses::{Exit, Trouble};
 use game_answers::{ShownBoard, shown_board};
 use sheet_json::push_shown_board;
+use std::alloc::{AllocError, Global};
+use std::io::Read;
 use std::rt::Runtime;
 
+/// The object of a board with the lines of its record that are not read, or that no event is on the line.
+fn board_text<S: Read + Drop>(
+    alloc: Global,
+    shown: &Option<ShownBoard>,
+    sheet: &SheetFile<S>,
+) -> Result<Vec<u8>, AllocError> {
+    let unread = unread_in(alloc, sheet)?;
+    let mut text = Vec::new(alloc);
+    push_shown_board(alloc, &mut text, shown, unread.as_slice())?;
+    Ok(text)
+}
+
 /// Writes a board, or that no event is on the line.
-fn tell_board<'a, R: Runtime + AllocGlobal>(
+fn tell_board<'a, R: Runtime + AllocGlobal, S: Read + Drop>(
     rt: &R,
     shown: &Option<ShownBoard>,
+    sheet: &SheetFile<S>,
 ) -> Result<Exit, Trouble<'a>> {
-    let mut text = Vec::new(rt.alloc());
-    if push_shown_board(rt.alloc(), &mut text, shown).is_err() {
+    let Ok(text) = board_text(rt.alloc(), shown, sheet) else {
         return Err(Trouble::NoMemory);
-    }
+    };
     write(rt, text.as_slice())?;
     match shown {
         Some(_) => Ok(Exit::Fine),
@@ -40,8 +54,9 @@ fn show_files<'a, R: Runtime + AllocGlobal>(
         Ok(Err(decision)) => Ok(Err(decision)),
         Err(fault) => Err(fault),
     };
+    advise_unread(rt, game, sheet.inner().front());
     match outcome {
-        Ok(Ok(shown)) => tell_board(rt, &shown),
+        Ok(Ok(shown)) => tell_board(rt, &shown, &sheet),
         Ok(Err(decision)) => refuse_in_json(rt, &decision),
         Err(fault) => {
             let inputs = [used_rules(rules, &stated.text), used_source(game, &sheet)];

@@ -20,6 +20,7 @@ use repair_json::{push_no_game, push_repair_answer};
 use std::alloc::{AllocError, Global};
 use std::io::Read;
 use std::rt::Runtime;
+use unread_lines::unread_lines;
 
 /// The object of what repairs the record of a case, in at most `number` lines.
 fn case_text(
@@ -32,13 +33,16 @@ fn case_text(
     requires { HasItsWalk rules.now (list_in pair.now) case.old }
 {
     let answer = answer_repairs(alloc, rules, pair, case, number)?;
+    let unread = unread_lines(alloc, case.text.as_slice())?;
     let mut text = Vec::new(alloc);
     if has_no_event(case) {
-        push_no_game(alloc, &mut text)?;
+        push_no_game(alloc, &mut text, unread.as_slice())?;
         return Ok(text);
     }
     match &case.read {
-        Ok(entry) => push_repair_answer(alloc, &mut text, &entry.record, &answer)?,
+        Ok(entry) => {
+            push_repair_answer(alloc, &mut text, &entry.record, &answer, unread.as_slice())?;
+        }
         Err(fault) => push_bad_record(alloc, &mut text, *fault)?,
     }
     Ok(text)

@@ -2,7 +2,7 @@
 
 use crate::answers::{AnswerTask, answer_in_json};
 use call_stages::{Decision, InputFault};
-use command_files::{open_inputs, open_sheet, refuse_in_json, told_in_json};
+use command_files::{open_inputs, open_sheet, rack_in_capitals, refuse_in_json, told_in_json};
 use command_line::{GameFiles, PlaysAsked};
 use engine::TurnPlays;
 use exit_statuses::{Exit, Trouble};
@@ -13,11 +13,11 @@ use std::rt::Runtime;
 /// How many plays are given if no number is requested.
 const USUAL_PLAYS: u32 = 10;
 
-/// The question that the command line asks; `None` if the rack that it names is not a rack.
-fn question_of(plays: PlaysAsked<'_>) -> Option<TurnPlays> {
-    let rack = match plays.rack {
+/// The question that the command line asks, with its rack in capitals; `None` if that is not a rack.
+fn question_of(plays: PlaysAsked<'_>, tiles: Option<&[u8]>) -> Option<TurnPlays> {
+    let rack = match tiles {
         None => None,
-        Some(rack) => Some(read_rack(rack.as_bytes())?),
+        Some(tiles) => Some(read_rack(tiles)?),
     };
     let number = plays.number.unwrap_or(USUAL_PLAYS) as usize;
     Some(TurnPlays {
@@ -40,13 +40,16 @@ fn refuse_rack<'a, R: Runtime + AllocGlobal>(
     }
 }
 
-/// Writes the best plays with a rack on a board of a record as a JSON object; if the program cannot finish, the object says why.
+/// Writes the best plays with a rack, whose letters may be lower case, on a board of a record as a JSON object; if the program cannot finish, the object says why.
 pub fn top_in_json<'a, R: Runtime + AllocGlobal>(
     rt: &R,
     files: GameFiles<'a>,
     plays: PlaysAsked<'a>,
 ) -> Result<Exit, Trouble<'a>> {
-    match question_of(plays) {
+    let Ok(tiles) = rack_in_capitals(rt.alloc(), plays.rack) else {
+        return told_in_json(rt, Err(Trouble::NoMemory));
+    };
+    match question_of(plays, tiles.as_ref().map(|tiles| tiles.as_slice())) {
         Some(question) => answer_in_json(rt, files, AnswerTask::Top(question)),
         None => told_in_json(rt, refuse_rack(rt, files)),
     }

@@ -1,9 +1,12 @@
 //! Inputs that a command would lose, since its output is the same file.
 #![tactic(auto)]
 
+mod pages;
+
 use command_line::{
     CaseTask, GameFiles, GameRequest, Request, STANDARD_INPUT, STANDARD_OUTPUT_NAME, SheetTask,
 };
+pub use pages::{RunInputs, input_under_pages};
 use std::rt::Runtime;
 use whole_files::is_same_file;
 
@@ -45,7 +48,7 @@ fn lost_of_game<R: Runtime>(
 }
 
 /// The file that is read for an input of this name: standard input may be a file too.
-fn source(name: &str) -> &str {
+pub(crate) fn source(name: &str) -> &str {
     if name == STANDARD_INPUT {
         STANDARD_INPUT_FILE
     } else {

@@ -4,13 +4,14 @@ use explain_lines::push_reason;
 use explanations::Explanation;
 use game_case::Case;
 use record_repairs::Repair;
+use record_sentences::{push_time_racks, push_unread_lines};
 use repair_words::push_likely;
 use std::alloc::{AllocError, Global};
 
 /// What a page says in sentences. They are those of `explain`.
 #[derive(Drop)]
 pub struct Sentences {
-    /// Why the verdict is what it is.
+    /// Which lines are not read although they look like events, and why the verdict is what it is.
     pub reason: Vec<u8>,
     /// What should be there and what is, with the evidence, if there is a likely repair.
     pub likely: Vec<u8>,
@@ -26,6 +27,8 @@ pub fn sentences_of(
     likely: Option<&Repair>,
 ) -> Result<Sentences, AllocError> {
     let mut reason = Vec::new(alloc);
+    push_unread_lines(alloc, &mut reason, case.text.as_slice())?;
+    push_time_racks(&mut reason, case.text.as_slice())?;
     push_reason(&mut reason, explanation)?;
     let mut words = Vec::new(alloc);
     if let Ok(entry) = &case.read {

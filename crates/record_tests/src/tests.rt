@@ -9,3 +9,4 @@ mod plays;
 mod records;
 mod tiles;
 mod turns;
+mod unread;

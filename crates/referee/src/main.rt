@@ -8,8 +8,11 @@ mod running;
 use crate::running::run_program;
 use std::io::IsTerminal;
 use std::process::ExitCode;
+use terminals::Guarded;
 
 fn main(rt: HostRuntime) -> ExitCode {
     let watched = rt.stderr().is_terminal();
+    let shown = rt.stdout().is_terminal();
+    let rt = Guarded::new(rt, shown, watched);
     ExitCode::from(run_program(&rt, watched).status())
 }

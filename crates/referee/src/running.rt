@@ -13,7 +13,7 @@ use engine::Judging;
 use exit_statuses::{Exit, Trouble};
 use game_commands::{board, build, check, convert, judge, tidy, top, word};
 use json_commands::{AnswerTask, answer_in_json, board_in_json, check_in_json, top_in_json};
-use lost_inputs::lost_input;
+use lost_inputs::{input_under_pages, lost_input};
 use ref_tiles::ENGLISH_TEXT;
 use serve_commands::serve;
 use sheet_commands::answer_sheet;
@@ -71,7 +71,12 @@ fn give_up<R: Runtime>(rt: &R, trouble: Trouble<'_>) -> Exit {
 /// Carries out the request, unless an output that it names is one of its inputs, which would be lost.
 fn answer<R: Runtime + AllocGlobal>(rt: &R, request: Request<'_>, watched: bool) -> Exit {
     if let Some(input) = lost_input(rt, &request) {
-        return refuse_loss(rt, input);
+        return refuse_loss(rt, "OUT", input);
+    }
+    match lost_to_pages(rt, &request) {
+        Ok(None) => {}
+        Ok(Some(input)) => return refuse_loss(rt, "a page in FOLDER", input),
+        Err(_) => return give_up(rt, Trouble::NoMemory),
     }
     match carry_out(rt, request, watched) {
         Ok(exit) => exit,
@@ -79,9 +84,20 @@ fn answer<R: Runtime + AllocGlobal>(rt: &R, request: Request<'_>, watched: bool)
     }
 }
 
+/// What help calls the first input that a page of an archive would be written over, if there is one.
+fn lost_to_pages<R: Runtime + AllocGlobal>(
+    rt: &R,
+    request: &Request<'_>,
+) -> Result<Option<&'static str>, AllocError> {
+    match request {
+        Request::Archive(run) => input_under_pages(rt, run),
+        _ => Ok(None),
+    }
+}
+
 /// Says that an output is the same file as an input.
-fn refuse_loss<R: Runtime + AllocGlobal>(rt: &R, input: &str) -> Exit {
-    match format!(in rt.alloc(); "OUT is the same file as {input}, which would be lost") {
+fn refuse_loss<R: Runtime + AllocGlobal>(rt: &R, out: &str, input: &str) -> Exit {
+    match format!(in rt.alloc(); "{out} is the same file as {input}, which would be lost") {
         Ok(text) => refuse(rt, &mistake(rt.alloc(), text.as_str())),
         Err(_) => give_up(rt, Trouble::NoMemory),
     }

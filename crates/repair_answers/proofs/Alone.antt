@@ -1,5 +1,5 @@
 -- What is wrong with a record of which only the numbers are wrong.
-use Rattle.std.proofs.Common.{◌≡◌, ℕ, List, true, false, Option, Some, None, ap, ◌∙◌, subst}
+use Rattle.std.proofs.Common.{◌≡◌, ℕ, List, true, false, Option, Some, None, map, ap, ◌∙◌, subst}
 use Rattle.std.specs.Option.{is_some}
 use Rattle.std.specs.List.{filter}
 use Rattle.ref_tiles.specs.declared.rulebook.Rules.{Rules}
@@ -13,15 +13,16 @@ use Rattle.game_sheets.specs.Corrections.{IsCorrection, HavePoints}
 use Rattle.game_sheets.proofs.Fronts.{one_correction}
 use Rattle.game_rows.specs.declared.refusals.Stop.{Stop}
 use Rattle.game_rows.specs.declared.walking.Walk.{Walk}
+use Rattle.game_rows.specs.Numbers.{numbers_in}
 use Rattle.game_rows.specs.Refusals.{EndsAt}
 use Rattle.game_rows.specs.Walks.{IsWalk}
 use Rattle.game_deal.specs.Verdicts.{IsGame}
 use Rattle.record_repairs.specs.Remaining.{is_on_line}
 use Rattle.record_repairs.specs.Trying.{IsWritable}
-use Rattle.record_repairs.specs.declared.remains.Remains.{Remains}
 use Rattle.record_repairs.proofs.Audits.{audited_right, audited_words}
 use Rattle.record_repairs.proofs.WrongLines.{lines_alone}
-use Rattle.repair_answers.specs.Unchanged.{MayBeGame, AreNumbersAlone, AreLeft}
+use Rattle.repair_answers.specs.declared.numbers_alone.NumbersAlone.{NumbersAlone}
+use Rattle.repair_answers.specs.Unchanged.{IsKnown, AreNumbersAlone, AreLeft}
 
 -- ---- a correction that stops, and one that does not
 
@@ -52,18 +53,19 @@ none_game rules list written right is none other writable game =
 
 -- ---- only the numbers are wrong
 
-pub numbers_alone : (rules : Rules) (list : List (List ℕ)) (written right : List Event) (wrong : List WrongNumber) (walk : Walk) (remains : Remains) → IsCorrection rules list written right
-    → HavePoints right → MayBeGame rules list right → IsAudited rules list written right wrong → IsWalk rules list written right walk → AreLeft list wrong walk.rows.items remains
-    → AreNumbersAlone rules list written remains
-numbers_alone rules list written right wrong walk remains is points may audited walked left =
+pub numbers_alone : (rules : Rules) (list : List (List ℕ)) (written right : List Event) (wrong : List WrongNumber) (walk : Walk) (alone : NumbersAlone) → IsCorrection rules list written right
+    → HavePoints right → alone.right.items ≡ map numbers_in right → IsKnown alone.is_game rules list right → IsAudited rules list written right wrong → IsWalk rules list written right walk
+    → AreLeft list wrong walk.rows.items alone.remains → AreNumbersAlone rules list written alone
+numbers_alone rules list written right wrong walk alone is points numbers known audited walked left =
     let writable : IsWritable rules list written right = record { correction = is; points = points } in
     let audit = audited_right rules list written written right right wrong writable is.renumbered audited in
     record {
       right = right;
       correction = writable;
-      game = may;
+      numbers = numbers;
+      game = known;
       wrong = left.wrong ∙ ap (filter is_on_line) audit.all ∙ lines_alone written right;
-      unlisted = audited_words rules list written written right right wrong walk (letters_in remains.unlisted.items) writable is.renumbered audit walked left.unlisted;
+      unlisted = audited_words rules list written written right right wrong walk (letters_in alone.remains.unlisted.items) writable is.renumbered audit walked left.unlisted;
     }
 
 -- ---- the record with the numbers that it had

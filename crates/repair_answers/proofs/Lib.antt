@@ -1,6 +1,5 @@
 pub mod Ranges
 pub mod Alone
-pub mod Found
 pub mod Grouped
 pub mod Tries
 pub mod Wanted

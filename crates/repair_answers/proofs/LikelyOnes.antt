@@ -8,35 +8,57 @@ use Rattle.play_changes.specs.PlayChanges.{ArePlayChanges}
 use Rattle.record_changes.specs.declared.slips.Change.{Change}
 use Rattle.record_repairs.specs.Repairs.{AreFirstRepairs}
 use Rattle.record_repairs.specs.declared.found.Found.{Found}
-use Rattle.record_repairs.specs.declared.remains.Remains.{Remains}
 use Rattle.record_repairs.specs.declared.repair.Repair.{Repair}
 use Rattle.repair_pairs.specs.Pairs.{ArePairs}
 use Rattle.repair_pairs.specs.declared.found.Pair.{Pair}
 use Rattle.repair_pairs.specs.declared.found.Pairs.{Pairs}
 use Rattle.repair_answers.specs.Answers.{below_of}
+use Rattle.repair_answers.specs.Amounts.{IsAmountOf, IsAmount}
 use Rattle.repair_answers.specs.Likely.{IsLikelyOf, IsLikely}
 use Rattle.repair_answers.specs.Unchanged.{IsUnchanged}
+use Rattle.repair_answers.specs.declared.numbers_alone.NumbersAlone.{NumbersAlone}
 
-pub likely_of : (rules : Rules) (list words : List (List ℕ)) (written now walked then : List Event) (remains : Option Remains) (below : Option ℕ) (walk : Walk) (plays : List Change) (found : Found)
-    (singles : List Repair) (two : Pairs) (pairs : List Pair) (likely : Option Repair) → words ≡ list → now ≡ written → walked ≡ now → then ≡ walked → IsUnchanged rules words written remains
-    → below ≡ below_of remains → IsWalkOf rules words now walk → ArePlayChanges walked walk plays → AreFirstRepairs rules list walked plays below 2 found.told.items found.left.items
-    → singles ≡ found.told.items → ArePairs rules words then singles 1 two → pairs ≡ two.told.items → IsLikelyOf remains found.told.items found.left.items pairs likely → IsLikely rules list written likely
-likely_of rules list words written now walked then remains below walk plays found singles two pairs likely is_list same still same_too alone by of_walk are_plays repairs are_singles are_pairs are_told chosen =
+pub likely_of : (rules : Rules) (list words : List (List ℕ)) (written now walked then : List Event) (numbers : Option NumbersAlone) (below : Option ℕ) (walk : Walk) (plays : List Change) (found : Found)
+    (singles : List Repair) (two : Pairs) (pairs : List Pair) (likely : Option Repair) → words ≡ list → now ≡ written → walked ≡ now → then ≡ walked → IsUnchanged rules words written numbers
+    → below ≡ below_of numbers → IsWalkOf rules words now walk → ArePlayChanges walked walk plays → AreFirstRepairs rules list walked plays below 4 found.told.items found.left.items
+    → singles ≡ found.told.items → ArePairs rules words then singles 1 two → pairs ≡ two.told.items → IsLikelyOf numbers found.told.items found.left.items pairs likely → IsLikely rules list written likely
+likely_of rules list words written now walked then numbers below walk plays found singles two pairs likely is_list same still same_too alone by of_walk are_plays repairs are_singles are_pairs are_told chosen =
     let here : walked ≡ written = still ∙ same in
     record {
-      remains = remains;
-      alone = subst (λ (ws : List (List ℕ)). IsUnchanged rules ws written remains) is_list alone;
+      numbers = numbers;
+      alone = subst (λ (ws : List (List ℕ)). IsUnchanged rules ws written numbers) is_list alone;
       walk = walk;
       walked = subst (λ (ws : List (List ℕ)). IsWalkOf rules ws written walk) is_list (subst (λ (es : List Event). IsWalkOf rules words es walk) same of_walk);
       plays = plays;
       are_plays = subst (λ (es : List Event). ArePlayChanges es walk plays) here are_plays;
       told = found.told.items;
       left = found.left.items;
-      repairs = subst (λ (b : Option ℕ). AreFirstRepairs rules list written plays b 2 found.told.items found.left.items) by
-          (subst (λ (es : List Event). AreFirstRepairs rules list es plays below 2 found.told.items found.left.items) here repairs);
+      repairs = subst (λ (b : Option ℕ). AreFirstRepairs rules list written plays b 4 found.told.items found.left.items) by
+          (subst (λ (es : List Event). AreFirstRepairs rules list es plays below 4 found.told.items found.left.items) here repairs);
       two = two;
       pairs = subst (λ (ws : List (List ℕ)). ArePairs rules ws written found.told.items 1 two) is_list
           (subst (λ (es : List Event). ArePairs rules words es found.told.items 1 two) (same_too ∙ here)
           (subst (λ (ss : List Repair). ArePairs rules words then ss 1 two) are_singles are_pairs));
-      chosen = subst (λ (ps : List Pair). IsLikelyOf remains found.told.items found.left.items ps likely) are_told chosen;
+      chosen = subst (λ (ps : List Pair). IsLikelyOf numbers found.told.items found.left.items ps likely) are_told chosen;
+    }
+
+-- the same for a repair of a bonus or a penalty
+pub amount_of : (rules : Rules) (list words here_words : List (List ℕ)) (written now walked : List Event) (numbers : Option NumbersAlone) (below : Option ℕ) (walk : Walk) (plays : List Change)
+    (found : Found) (amount : Option Repair) → words ≡ list → here_words ≡ list → now ≡ written → walked ≡ now → IsUnchanged rules words written numbers → below ≡ below_of numbers
+    → IsWalkOf rules here_words now walk → ArePlayChanges walked walk plays → AreFirstRepairs rules list walked plays below 1 found.told.items found.left.items
+    → IsAmountOf numbers found.told.items amount → IsAmount rules list written amount
+amount_of rules list words here_words written now walked numbers below walk plays found amount is_list is_here same still alone by of_walk are_plays repairs chosen =
+    let here : walked ≡ written = still ∙ same in
+    record {
+      numbers = numbers;
+      alone = subst (λ (ws : List (List ℕ)). IsUnchanged rules ws written numbers) is_list alone;
+      walk = walk;
+      walked = subst (λ (ws : List (List ℕ)). IsWalkOf rules ws written walk) is_here (subst (λ (es : List Event). IsWalkOf rules here_words es walk) same of_walk);
+      plays = plays;
+      are_plays = subst (λ (es : List Event). ArePlayChanges es walk plays) here are_plays;
+      told = found.told.items;
+      left = found.left.items;
+      repairs = subst (λ (b : Option ℕ). AreFirstRepairs rules list written plays b 1 found.told.items found.left.items) by
+          (subst (λ (es : List Event). AreFirstRepairs rules list es plays below 1 found.told.items found.left.items) here repairs);
+      chosen = chosen;
     }

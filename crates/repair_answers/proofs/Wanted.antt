@@ -13,7 +13,7 @@ use Rattle.record_repairs.specs.declared.repair.Repair.{Repair}
 use Rattle.repair_pairs.specs.Pairs.{ArePairs}
 use Rattle.repair_pairs.specs.declared.found.Pairs.{Pairs}
 use Rattle.repair_answers.specs.Answers.{below_of, RepairsIn}
-use Rattle.repair_answers.specs.Lines.{AreLines}
+use Rattle.repair_answers.specs.Lines.{AreLines, before_numbers}
 use Rattle.repair_answers.specs.Tried.{tried_changes, many_tried}
 use Rattle.repair_answers.specs.Unchanged.{IsUnchanged}
 use Rattle.repair_answers.specs.declared.answers.Faulty.{Faulty}
@@ -52,15 +52,15 @@ pairs_wanted rules list written singles most wanted pairs is are =
 
 -- what is found of an illegal record
 pub found_of : (rules : Rules) (list words : List (List ℕ)) (written between between_too seen : List Event) (walk : Walk) (most wanted : ℕ) (below : Option ℕ) (shown singles : List Repair) (f : Faulty)
-    → words ≡ list → between ≡ written → IsUnchanged rules words written f.unchanged → below ≡ below_of f.unchanged → wanted ≡ min (most * 27) (2 ^ 64 - 1) → ArePlayChanges between walk f.plays.items
+    → words ≡ list → between ≡ written → IsUnchanged rules words written f.alone → below ≡ below_of f.alone → wanted ≡ min (most * 27) (2 ^ 64 - 1) → ArePlayChanges between walk f.plays.items
     → AreFirstRepairs rules list between f.plays.items below wanted f.found.told.items f.found.left.items → shown ≡ f.found.told.items → AreLines shown most f.lines.items
-    → between_too ≡ written → singles ≡ f.found.told.items → ArePairs rules words between_too singles wanted f.pairs
+    → f.before_numbers ≡ before_numbers f.alone shown f.lines.items → between_too ≡ written → singles ≡ f.found.told.items → ArePairs rules words between_too singles wanted f.pairs
     → seen ≡ written → f.tried ≡ length (tried_changes rules seen walk) + length f.plays.items → RepairsIn rules list written walk most f
-found_of rules list words written between between_too seen walk most wanted below shown singles f by same alone limit is plays first told lines still of pairs kept tried =
+found_of rules list words written between between_too seen walk most wanted below shown singles f by same alone limit is plays first told lines numbers still of pairs kept tried =
     let ok = f.found.told.ok in
     let small = f.found.told.small in
-    let here : AreFirstRepairs rules list written f.plays.items (below_of f.unchanged) wanted f.found.told.items f.found.left.items =
-    subst (λ (es : List Event). AreFirstRepairs rules list es f.plays.items (below_of f.unchanged) wanted f.found.told.items f.found.left.items) same
+    let here : AreFirstRepairs rules list written f.plays.items (below_of f.alone) wanted f.found.told.items f.found.left.items =
+    subst (λ (es : List Event). AreFirstRepairs rules list es f.plays.items (below_of f.alone) wanted f.found.told.items f.found.left.items) same
     (subst (λ (o : Option ℕ). AreFirstRepairs rules list between f.plays.items o wanted f.found.told.items f.found.left.items) limit first) in
     let short : length f.found.told.items < 2 ^ 63 = omega arith in
     let both : ArePairs rules list written f.found.told.items wanted f.pairs =
@@ -68,10 +68,11 @@ found_of rules list words written between between_too seen walk most wanted belo
     (subst (λ (es : List Event). ArePairs rules words es f.found.told.items wanted f.pairs) still
     (subst (λ (rs : List Repair). ArePairs rules words between_too rs wanted f.pairs) of pairs)) in
     record {
-      alone = subst (λ (ws : List (List ℕ)). IsUnchanged rules ws written f.unchanged) by alone;
+      alone = subst (λ (ws : List (List ℕ)). IsUnchanged rules ws written f.alone) by alone;
       plays = subst (λ (es : List Event). ArePlayChanges es walk f.plays.items) same plays;
-      repairs = all_wanted rules list written f.plays.items (below_of f.unchanged) most wanted f.found.told.items f.found.left.items is short here;
+      repairs = all_wanted rules list written f.plays.items (below_of f.alone) most wanted f.found.told.items f.found.left.items is short here;
       lines = subst (λ (rs : List Repair). AreLines rs most f.lines.items) told lines;
+      before = numbers ∙ ap (λ (rs : List Repair). before_numbers f.alone rs f.lines.items) told;
       pairs = pairs_wanted rules list written f.found.told.items most wanted f.pairs is both;
       tried = tried ∙ ap (λ (es : List Event). many_tried rules es walk f.plays.items) kept;
     }

@@ -12,25 +12,27 @@ use Rattle.game_case.specs.declared.findings.Finding.TheVariants as finding
 use Rattle.game_case.specs.Explaining.{case_verdict}
 use Rattle.play_changes.specs.PlayChanges.{ArePlayChanges}
 use Rattle.record_repairs.specs.Repairs.{AreFirstRepairs}
-use Rattle.record_repairs.specs.declared.remains.Remains.{Remains}
 use Rattle.repair_pairs.specs.Pairs.{ArePairs}
-use Rattle.repair_answers.specs.Lines.{AreLines}
+use Rattle.repair_answers.specs.Lines.{AreLines, before_numbers}
 use Rattle.repair_answers.specs.Tried.{many_tried}
 use Rattle.repair_answers.specs.Unchanged.{IsUnchanged}
+use Rattle.repair_answers.specs.declared.numbers_alone.NumbersAlone.{NumbersAlone}
 use Rattle.repair_answers.specs.declared.answers.Faulty.{Faulty}
 use Rattle.repair_answers.specs.declared.answers.RepairAnswer.{RepairAnswer}
 
 -- how many numbers and words are wrong if only the numbers are: fewer must stay wrong with a repair
-abbrev pub below_of : Option Remains → Option ℕ
-below_of remains = option_map (λ (r : Remains). length r.wrong.items + length r.unlisted.items) remains
+abbrev pub below_of : Option NumbersAlone → Option ℕ
+below_of alone = option_map (λ (a : NumbersAlone). length a.remains.wrong.items + length a.remains.unlisted.items) alone
 
 -- What repairs an illegal record: what is wrong if only its numbers are, changes of plays that a search found, which are tried too, its first repairs,
--- as many as `most` lines can have, the lines, pairs of changes that cost less than each of these repairs, and how many changes were tried.
+-- as many as `most` lines can have, the lines, how many of them cost less than correcting only the numbers, pairs of changes that cost less than
+-- each of these repairs, and how many changes were tried.
 pub record RepairsIn (rules : Rules) (list : List (List ℕ)) (written : List Event) (walk : Walk) (most : ℕ) (f : Faulty) : Type 0 where
-  pub alone : IsUnchanged rules list written f.unchanged
+  pub alone : IsUnchanged rules list written f.alone
   pub plays : ArePlayChanges written walk f.plays.items
-  pub repairs : AreFirstRepairs rules list written f.plays.items (below_of f.unchanged) (27 * most) f.found.told.items f.found.left.items
+  pub repairs : AreFirstRepairs rules list written f.plays.items (below_of f.alone) (27 * most) f.found.told.items f.found.left.items
   pub lines : AreLines f.found.told.items most f.lines.items
+  pub before : f.before_numbers ≡ before_numbers f.alone f.found.told.items f.lines.items
   pub pairs : ArePairs rules list written f.found.told.items (27 * most) f.pairs
   pub tried : f.tried ≡ many_tried rules written walk f.plays.items
 

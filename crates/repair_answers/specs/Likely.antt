@@ -1,5 +1,5 @@
 -- The repair of a record that is likelier than all others by far.
-use Rattle.std.specs.Prelude.{◌≡◌, ◌≤◌, ℕ, ◌+◌, ◌*◌, ⊤, List, [], length, Option, Some, None, Result, Ok, Err}
+use Rattle.std.specs.Prelude.{◌≡◌, ℕ, List, [], Option, Some, None, Result, Ok, Err}
 use Rattle.ref_tiles.specs.declared.rulebook.Rules.{Rules}
 use Rattle.gcg_read.specs.declared.events.Event.{Event}
 use Rattle.gcg_read.specs.declared.faults.ReadFault.{ReadFault}
@@ -12,47 +12,41 @@ use Rattle.play_changes.specs.PlayChanges.{ArePlayChanges}
 use Rattle.record_changes.specs.declared.slips.Change.{Change}
 use Rattle.record_repairs.specs.Repairs.{AreFirstRepairs}
 use Rattle.record_repairs.specs.declared.listed.Listed.{Listed}
-use Rattle.record_repairs.specs.declared.remains.Remains.{Remains}
 use Rattle.record_repairs.specs.declared.repair.Repair.{Repair}
 use Rattle.repair_pairs.specs.declared.found.Pair.{Pair}
 use Rattle.repair_pairs.specs.declared.found.Pairs.{Pairs}
 use Rattle.repair_pairs.specs.Pairs.{ArePairs}
-use Rattle.repair_answers.specs.Alike.{cost_in}
 use Rattle.repair_answers.specs.Answers.{below_of}
-use Rattle.repair_answers.specs.Choices.{IsFirst, HasRival}
+use Rattle.repair_answers.specs.Choices.{IsFirst, HasRival, IsAheadOfNumbers}
 use Rattle.repair_answers.specs.Unchanged.{IsUnchanged}
-
--- A repair is ahead of correcting only the numbers by at least a wrong number: 5 for each number, 3 for each word that is not in the list. If more than numbers
--- is wrong, there is nothing to be ahead of.
-abbrev pub IsAheadOfNumbers : Option Remains → Repair → Type 0
-IsAheadOfNumbers None repair = ⊤
-IsAheadOfNumbers (Some remains) repair = cost_in repair + 5 ≤ 5 * length remains.wrong.items + 3 * length remains.unlisted.items
+use Rattle.repair_answers.specs.declared.numbers_alone.NumbersAlone.{NumbersAlone}
 
 -- The likely one of some repairs: no change is left open, it is ahead of the others and of the record with only its numbers corrected, and no two changes
 -- cost less.
-abbrev pub IsFarFirst : Option Remains → (told : List Repair) → (left : List Listed) → (pairs : List Pair) → Repair → Type 0
-IsFarFirst remains told left pairs repair = (left ≡ []) × IsFirst told repair × (HasRival repair pairs → ⊥) × IsAheadOfNumbers remains repair
+abbrev pub IsFarFirst : Option NumbersAlone → (told : List Repair) → (left : List Listed) → (pairs : List Pair) → Repair → Type 0
+IsFarFirst alone told left pairs repair = (left ≡ []) × IsFirst told repair × (HasRival repair pairs → ⊥) × IsAheadOfNumbers alone repair
 
 -- that one, or that there is none
-abbrev pub IsLikelyOf : Option Remains → (told : List Repair) → (left : List Listed) → (pairs : List Pair) → Option Repair → Type 0
-IsLikelyOf remains told left pairs (Some repair) = IsFarFirst remains told left pairs repair
-IsLikelyOf remains told left pairs None = (repair : Repair) → IsFarFirst remains told left pairs repair → ⊥
+abbrev pub IsLikelyOf : Option NumbersAlone → (told : List Repair) → (left : List Listed) → (pairs : List Pair) → Option Repair → Type 0
+IsLikelyOf alone told left pairs (Some repair) = IsFarFirst alone told left pairs repair
+IsLikelyOf alone told left pairs None = (repair : Repair) → IsFarFirst alone told left pairs repair → ⊥
 
--- The likely repair of a record: the first, if it is ahead of the second and of correcting only the numbers by at least a wrong number, and if no two
--- changes that were found cost less. Some plays that a search found may have been tried in addition to the changes of the list.
+-- The likely repair of a record: the first of four, if it is ahead by at least a wrong number of the others, but for those that only say less, and of
+-- correcting only the numbers, and if no two changes that were found cost less. Some plays that a search found may have been tried in addition to
+-- the changes of the list.
 pub record IsLikely (rules : Rules) (list : List (List ℕ)) (written : List Event) (likely : Option Repair) : Type 0 where
-  pub remains : Option Remains
-  pub alone : IsUnchanged rules list written remains
+  pub numbers : Option NumbersAlone
+  pub alone : IsUnchanged rules list written numbers
   pub walk : Walk
   pub walked : IsWalkOf rules list written walk
   pub plays : List Change
   pub are_plays : ArePlayChanges written walk plays
   pub told : List Repair
   pub left : List Listed
-  pub repairs : AreFirstRepairs rules list written plays (below_of remains) 2 told left
+  pub repairs : AreFirstRepairs rules list written plays (below_of numbers) 4 told left
   pub two : Pairs
   pub pairs : ArePairs rules list written told 1 two
-  pub chosen : IsLikelyOf remains told left two.told.items likely
+  pub chosen : IsLikelyOf numbers told left two.told.items likely
 
 -- The likely repair of a record with this finding: only an illegal one has it.
 abbrev pub IsLikelyFor : Rules → (list : List (List ℕ)) → Finding → (written : List Event) → Option Repair → Type 0

@@ -1,8 +1,10 @@
 -- Repairs in lines.
-use Rattle.std.specs.Prelude.{◌≡◌, ℕ, ◌+◌, ◌-◌, not, Bool, true, false, List, [], ◌∷◌, ◌++◌, map, filter, take, length, All, slice_get, Option, Some, if◌then◌else◌}
-use Rattle.std.specs.List.{list_all, range_with_len}
+use Rattle.std.specs.Prelude.{◌≡◌, ℕ, ◌+◌, ◌-◌, not, Bool, true, false, List, [], ◌∷◌, ◌++◌, map, filter, take, length, All, slice_get, nat_lt, Option, Some, None, if◌then◌else◌}
+use Rattle.std.specs.List.{list_all, count_by, range_with_len}
 use Rattle.record_repairs.specs.declared.repair.Repair.{Repair}
-use Rattle.repair_answers.specs.Alike.{is_like}
+use Rattle.repair_answers.specs.Alike.{is_like, cost_in}
+use Rattle.repair_answers.specs.Choices.{alone_cost}
+use Rattle.repair_answers.specs.declared.numbers_alone.NumbersAlone.{NumbersAlone}
 use Rattle.repair_answers.specs.declared.evidence.Told.{Told}
 
 abbrev pub are_like : Option Repair → Option Repair → Bool
@@ -51,3 +53,16 @@ AddsLine repairs index old new = AddsBy (is_first repairs index) repairs index o
 pub record AreLines (repairs : List Repair) (most : ℕ) (lines : List Told) : Type 0 where
   pub firsts : map (λ (line : Told). line.first) lines ≡ take most (first_ones repairs)
   pub each : All (IsLine repairs) lines
+
+-- whether the first repair of a line costs less than correcting only the numbers
+abbrev pub is_below : NumbersAlone → Option Repair → Bool
+is_below alone None = false
+is_below alone (Some repair) = nat_lt (cost_in repair) (alone_cost alone)
+
+abbrev pub is_before : NumbersAlone → List Repair → Told → Bool
+is_before alone repairs line = is_below alone (slice_get repairs line.first)
+
+-- How many of some lines cost less than correcting only the numbers; none if more than numbers is wrong.
+abbrev pub before_numbers : Option NumbersAlone → List Repair → List Told → ℕ
+before_numbers None repairs lines = 0
+before_numbers (Some alone) repairs lines = count_by (is_before alone repairs) lines

@@ -8,7 +8,7 @@ use record_repairs::Repair;
 use ref_tiles::Kind;
 
 /// Whether both are the same kind of tile.
-fn same_tile(kind: Kind, other: Kind) -> bool
+pub(crate) fn same_tile(kind: Kind, other: Kind) -> bool
     ensures { result ≡ same_tile kind other }
 {
     kind.byte() == other.byte()

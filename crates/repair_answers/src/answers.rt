@@ -5,8 +5,9 @@ ghost use Rattle.game_case.specs.Explaining.{IsWalkFor, HasItsWalk};
 ghost use Rattle.lex_check.specs.Pairs.{list_in};
 ghost use Rattle.repair_answers.specs.Answers.{below_of, is_illegal, RepairsIn, RepairsBy, RepairsOf, IsRepairAnswer};
 
-use crate::evidence::{Told, lines_of};
+use crate::evidence::{Told, before_numbers, lines_of};
 use crate::lists::many_tried;
+use crate::numbers_alone::NumbersAlone;
 use crate::pair_lines::pair_lines;
 use crate::singles::first_repairs;
 use crate::unchanged::unchanged;
@@ -16,7 +17,7 @@ use game_rows::Walk;
 use gcg_read::{ReadFault, Record};
 use lex_check::Checked;
 use record_changes::Change;
-use record_repairs::{Found, Remains};
+use record_repairs::Found;
 use ref_tiles::Rules;
 use repair_pairs::{Pairs, pairs};
 use std::alloc::{AllocError, Global};
@@ -28,13 +29,15 @@ const MOST_ALIKE: usize = 27;
 #[derive(Drop)]
 pub struct Faulty {
     /// What is wrong if only the numbers are; `None` if more is wrong.
-    pub unchanged: Option<Remains>,
+    pub alone: Option<NumbersAlone>,
     /// Changes of plays that a search found, if no repair by the list of changes is a likely one. They are tried too.
     pub plays: Vec<Change>,
     /// The first repairs, and the changes that are left open.
     pub found: Found,
     /// The first repairs in lines.
     pub lines: Vec<Told>,
+    /// How many of these lines cost less than correcting only the numbers.
+    pub before_numbers: usize,
     /// Pairs of changes that repair it and cost less than each of the first repairs.
     pub pairs: Pairs,
     /// The pairs in lines.
@@ -53,11 +56,11 @@ pub struct RepairAnswer {
 }
 
 /// Fewer numbers and words than this may stay wrong with a repair; `None` if any number may.
-pub(crate) fn below_of(unchanged: &Option<Remains>) -> Option<usize>
-    ensures { result ≡ below_of unchanged.now }
+pub(crate) fn below_of(alone: &Option<NumbersAlone>) -> Option<usize>
+    ensures { result ≡ below_of alone.now }
 {
-    match unchanged {
-        Some(remains) => Some(remains.wrong.len() + remains.unlisted.len()),
+    match alone {
+        Some(alone) => Some(alone.remains.wrong.len() + alone.remains.unlisted.len()),
         None => None,
     }
 }
@@ -76,12 +79,13 @@ fn faulty_of(
     ensures same { OnOk result (game.new ≡ game.old) }
 {
     let list = pair.list();
-    let remains = unchanged(alloc, rules, list, game)?;
-    let below = below_of(&remains);
+    let alone = unchanged(alloc, rules, list, game)?;
+    let below = below_of(&alone);
     let wanted = most.saturating_mul(MOST_ALIKE);
     let singles = first_repairs(alloc, rules, pair, walk, &mut game.events, below, wanted)?;
     let told = singles.found.told.as_slice();
     let lines = lines_of(alloc, told, most)?;
+    let before = before_numbers(&alone, told, lines.as_slice());
     let pairs = pairs(alloc, rules, list, &mut game.events, told, wanted)?;
     let pair_lines = pair_lines(alloc, pairs.told.as_slice(), most)?;
     let tried = many_tried(
@@ -93,10 +97,11 @@ fn faulty_of(
         singles.plays.len(),
     )?;
     Ok(Faulty {
-        unchanged: remains,
+        alone,
         plays: singles.plays,
         found: singles.found,
         lines,
+        before_numbers: before,
         pairs,
         pair_lines,
         tried,

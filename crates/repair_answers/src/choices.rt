@@ -1,27 +1,31 @@
-//! Whether the first repair is the likeliest by far.
-ghost use Rattle.std.specs.Prelude.{◌≡◌, ◌↔◌, IsTrue, IsFalse};
+//! Whether the first repair, or the record with only its numbers corrected, is the likeliest by far.
+ghost use Rattle.std.specs.Prelude.{◌≡◌, ◌⊎◌, ◌↔◌, ◌≤◌, ◌+◌, All, IsTrue, IsFalse, [], None};
 ghost use Rattle.repair_answers.specs.Alike.{cost_in};
-ghost use Rattle.repair_answers.specs.Choices.{IsFarAhead, HasRival, IsChosen, IsChoice};
+ghost use Rattle.repair_answers.specs.Choices.{says_less, leaves_out_tile, says_less_slip, IsAheadOf, HasRival, IsAheadOfNumbers, LeadsRepairs, LeadsPairs, Lead, IsGameAlone, IsChoice};
 
+use crate::alike::same_tile;
 use crate::answers::Faulty;
+use crate::numbers_alone::{NUMBER, NumbersAlone};
+use record_changes::{Slip, TileSlip, TilesOf};
 use record_repairs::{Found, Repair};
 use repair_pairs::Pair;
-
-/// What a wrong number costs.
-pub(crate) const NUMBER: u128 = 5;
 
 /// Whether one repair is to be chosen.
 #[derive(Clone, Copy)]
 pub enum Choice<'a> {
     /// There is no repair.
     None,
-    /// It is not known of some changes whether they are repairs.
+    /// It is not known of some changes whether they are repairs; or correcting only the numbers is ahead, and it is not known whether that makes a game.
     Open,
-    /// The second repair is less than a wrong number behind the first.
-    Close,
+    /// Correcting only the numbers is ahead of all repairs by at least a wrong number, or there are none.
+    Numbers,
     /// Two changes together cost less than the first repair.
     Pair,
-    /// The first repair is ahead of the second by at least a wrong number, or it is the only one, and no two changes cost less.
+    /// Correcting only the numbers is nearly as likely as the first repair, or likelier.
+    NearNumbers,
+    /// Another repair, which does not only say less, is less than a wrong number behind the first.
+    Close,
+    /// The first repair is ahead of all others by at least a wrong number, but for those that only say less.
     Clear(&'a Repair),
 }
 
@@ -32,17 +36,74 @@ pub(crate) fn cost_of(repair: &Repair) -> u128
     repair.remains.cost(&repair.listed.change.slip)
 }
 
-/// Whether one repair is ahead of another by at least a wrong number.
-fn is_far_ahead(first: &Repair, second: &Repair) -> bool
-    ensures { IsTrue result ↔ IsFarAhead first.now second.now }
+/// Whether the other slip only leaves out the tile that was taken for another one.
+fn leaves_out_tile(slip: &TileSlip, other: &TileSlip) -> bool
+    ensures { result ≡ leaves_out_tile slip.now other.now }
 {
-    cost_of(second).saturating_sub(cost_of(first)) >= NUMBER
+    match (slip, other) {
+        (TileSlip::Other { tile, .. }, TileSlip::Extra { tile: one }) => same_tile(*tile, *one),
+        _ => false,
+    }
+}
+
+/// Whether the other slip says less of a stated rack.
+fn says_less_slip(slip: &Slip, other: &Slip) -> bool
+    ensures { result ≡ says_less_slip slip.now other.now }
+{
+    match (slip, other) {
+        (
+            Slip::Tile {
+                of: TilesOf::Rack,
+                slip,
+            },
+            Slip::Tile {
+                of: TilesOf::Rack,
+                slip: other,
+            },
+        ) => leaves_out_tile(slip, other),
+        (
+            Slip::Tile {
+                of: TilesOf::Rack,
+                ..
+            },
+            Slip::NoRack,
+        ) => true,
+        _ => false,
+    }
+}
+
+/// Whether another repair says the same as the first, and less.
+fn says_less(first: &Repair, other: &Repair) -> bool
+    ensures { result ≡ says_less first.now other.now }
+{
+    first.listed.change.place == other.listed.change.place
+        && says_less_slip(&first.listed.change.slip, &other.listed.change.slip)
+}
+
+/// Whether a cost is ahead of another one by at least a wrong number.
+fn is_far_below(cost: u128, other: u128) -> bool
+    ensures { IsTrue result ↔ (cost + 5 ≤ other) }
+{
+    other.saturating_sub(cost) >= NUMBER
+}
+
+/// Whether a repair is ahead of another one by at least a wrong number, or the other one only says less.
+fn is_ahead_of(first: &Repair, other: &Repair) -> bool
+    ensures { IsTrue result ↔ IsAheadOf first.now other.now }
+{
+    says_less(first, other) || is_far_below(cost_of(first), cost_of(other))
+}
+
+/// Whether a repair is ahead of all others.
+fn is_ahead_of_all(first: &Repair, others: &[Repair]) -> bool
+    ensures { IsTrue result ↔ All (IsAheadOf first.now) others.now }
+{
+    others.iter().all(|other| is_ahead_of(first, other))
 }
 
 /// Whether the cheapest pair costs less than a repair.
 fn has_rival(first: &Repair, pairs: &[Pair]) -> bool
-    ensures yes { IsTrue result → HasRival first.now pairs.now }
-    ensures no { IsFalse result → HasRival first.now pairs.now → ⊥ }
+    ensures { IsTrue result ↔ HasRival first.now pairs.now }
 {
     match pairs {
         [] => false,
@@ -50,42 +111,115 @@ fn has_rival(first: &Repair, pairs: &[Pair]) -> bool
     }
 }
 
-/// The choice of a repair, if no pair costs less.
-fn chosen<'a>(first: &'a Repair, pairs: &[Pair]) -> Choice<'a>
-    ensures { IsChosen first.now pairs.now result }
+/// Whether a repair is ahead of correcting only the numbers; it is if more than numbers is wrong.
+fn is_ahead_of_numbers(alone: &Option<NumbersAlone>, repair: &Repair) -> bool
+    ensures { IsTrue result ↔ IsAheadOfNumbers alone.now repair.now }
 {
-    if has_rival(first, pairs) {
-        Choice::Pair
-    } else {
-        Choice::Clear(first)
+    match alone {
+        Some(alone) => is_far_below(cost_of(repair), alone.cost()),
+        None => true,
     }
 }
 
-/// Which of some repairs is to be chosen, if one is, given some pairs that were found too.
-pub(crate) fn choice_among<'a>(found: &'a Found, pairs: &[Pair]) -> Choice<'a>
-    ensures { IsChoice found.now.told.items found.now.left.items pairs.now result }
+/// Whether correcting only the numbers is ahead of the first repair.
+fn leads_repairs(alone: &NumbersAlone, told: &[Repair]) -> bool
+    ensures { IsTrue result ↔ LeadsRepairs alone.now told.now }
+{
+    match told {
+        [] => true,
+        [first, ..] => is_far_below(alone.cost(), cost_of(first)),
+    }
+}
+
+/// Whether correcting only the numbers is ahead of the cheapest pair.
+fn leads_pairs(alone: &NumbersAlone, pairs: &[Pair]) -> bool
+    ensures { IsTrue result ↔ LeadsPairs alone.now pairs.now }
+{
+    match pairs {
+        [] => true,
+        [pair, ..] => is_far_below(alone.cost(), pair.cost),
+    }
+}
+
+/// Whether correcting only the numbers is ahead of all changes.
+fn lead(alone: &Option<NumbersAlone>, told: &[Repair], pairs: &[Pair]) -> bool
+    ensures { IsTrue result ↔ Lead alone.now told.now pairs.now }
+{
+    match alone {
+        Some(alone) => leads_repairs(alone, told) && leads_pairs(alone, pairs),
+        None => false,
+    }
+}
+
+/// The choice, if correcting only the numbers is ahead of all changes.
+fn by_numbers<'a>(alone: &Option<NumbersAlone>, told: &'a [Repair], pairs: &[Pair]) -> Choice<'a>
+    requires { Lead alone.now told.now pairs.now }
+    ensures { IsChoice told.now [] pairs.now alone.now result }
+{
+    match alone {
+        Some(alone) if alone.is_game => Choice::Numbers,
+        Some(_) => Choice::Open,
+        None => unreachable!(),
+    }
+}
+
+/// The choice, if there is no repair.
+fn without_repair<'a>(
+    alone: &Option<NumbersAlone>,
+    told: &'a [Repair],
+    pairs: &[Pair],
+) -> Choice<'a>
+    requires told { told.now ≡ [] }
+    requires behind { Lead alone.now told.now pairs.now → ⊥ }
+    ensures { IsChoice told.now [] pairs.now alone.now result }
+{
+    match alone {
+        Some(_) => Choice::Pair,
+        None => Choice::None,
+    }
+}
+
+/// The choice, if there is a repair and correcting only the numbers is not ahead of all changes.
+fn by_repairs<'a>(alone: &Option<NumbersAlone>, told: &'a [Repair], pairs: &[Pair]) -> Choice<'a>
+    requires { Lead alone.now told.now pairs.now → ⊥ }
+    ensures { IsChoice told.now [] pairs.now alone.now result }
+{
+    let [first, rest @ ..] = told else {
+        return without_repair(alone, told, pairs);
+    };
+    if has_rival(first, pairs) {
+        Choice::Pair
+    } else if !is_ahead_of_numbers(alone, first) {
+        Choice::NearNumbers
+    } else if is_ahead_of_all(first, rest) {
+        Choice::Clear(first)
+    } else {
+        Choice::Close
+    }
+}
+
+/// Which of some repairs is to be chosen, if one is, given some pairs that were found too, and what is wrong if only the numbers are.
+pub(crate) fn choice_among<'a>(
+    found: &'a Found,
+    pairs: &[Pair],
+    alone: &Option<NumbersAlone>,
+) -> Choice<'a>
+    ensures { IsChoice found.now.told.items found.now.left.items pairs.now alone.now result }
 {
     if !found.left.is_empty() {
         return Choice::Open;
     }
-    match found.told.as_slice() {
-        [] => Choice::None,
-        [first] => chosen(first, pairs),
-        [first, second, ..] => {
-            if has_rival(first, pairs) {
-                Choice::Pair
-            } else if is_far_ahead(first, second) {
-                Choice::Clear(first)
-            } else {
-                Choice::Close
-            }
-        }
+    let told = found.told.as_slice();
+    if lead(alone, told, pairs) {
+        by_numbers(alone, told, pairs)
+    } else {
+        by_repairs(alone, told, pairs)
     }
 }
 
 /// Which of the repairs that were found is to be chosen, if one is.
 pub fn choice_of(faulty: &Faulty) -> Choice<'_>
-    ensures { IsChoice faulty.now.found.told.items faulty.now.found.left.items faulty.now.pairs.told.items result }
+    ensures { IsChoice faulty.now.found.told.items faulty.now.found.left.items faulty.now.pairs.told.items faulty.now.alone result }
 {
-    choice_among(&faulty.found, faulty.pairs.told.as_slice())
+    choice_among(&faulty.found, faulty.pairs.told.as_slice(), &faulty.alone)
 }

@@ -1,8 +1,10 @@
 //! Repairs that share a line.
 ghost use Rattle.std.specs.Prelude.{◌≡◌, ◌<◌, ◌++◌, length, IfOk, OnOk};
-ghost use Rattle.repair_answers.specs.Lines.{like_at, is_first, those_like, others_of, AddsLine, AreLines};
+ghost use Rattle.repair_answers.specs.Lines.{like_at, is_first, those_like, others_of, AddsLine, AreLines, is_before, before_numbers};
 
 use crate::alike::is_like;
+use crate::choices::cost_of;
+use crate::numbers_alone::NumbersAlone;
 use record_repairs::Repair;
 use std::alloc::{AllocError, Global};
 
@@ -103,4 +105,31 @@ pub(crate) fn lines_of(
         push_line(alloc, &mut lines, repairs, index)?;
     }
     Ok(lines)
+}
+
+/// Whether the first repair of a line costs less than correcting only the numbers.
+fn is_before(alone: &NumbersAlone, repairs: &[Repair], line: &Told) -> bool
+    ensures { result ≡ is_before alone.now repairs.now line.now }
+{
+    match repairs.get(line.first) {
+        Some(repair) => cost_of(repair) < alone.cost(),
+        None => false,
+    }
+}
+
+/// How many of some lines cost less than correcting only the numbers; none if more than numbers is wrong.
+pub(crate) fn before_numbers(
+    alone: &Option<NumbersAlone>,
+    repairs: &[Repair],
+    lines: &[Told],
+) -> usize
+    ensures { result ≡ before_numbers alone.now repairs.now lines.now }
+{
+    match alone {
+        Some(alone) => lines
+            .iter()
+            .filter(|line| is_before(alone, repairs, line))
+            .count(),
+        None => 0,
+    }
 }

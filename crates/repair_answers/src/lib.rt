@@ -4,16 +4,20 @@
 #![tactic(auto)]
 
 mod alike;
+mod amounts;
 mod answers;
 mod choices;
 mod evidence;
 mod likely;
 mod lists;
+mod numbers_alone;
 mod pair_lines;
 mod singles;
 mod unchanged;
 
+pub use amounts::amount_repair;
 pub use answers::{Faulty, RepairAnswer, answer_repairs};
 pub use choices::{Choice, choice_of};
 pub use evidence::Told;
 pub use likely::{likely_in, likely_in_case, likely_repair};
+pub use numbers_alone::NumbersAlone;

@@ -1,56 +1,37 @@
 //! The repair of a record that is likelier than all others by far.
-ghost use Rattle.std.specs.Prelude.{◌≡◌, ◌↔◌, IsTrue, IfOk, OnOk};
+ghost use Rattle.std.specs.Prelude.{◌≡◌, IfOk, OnOk};
 ghost use Rattle.lex_check.specs.Pairs.{list_in};
-ghost use Rattle.repair_answers.specs.Likely.{IsAheadOfNumbers, IsLikelyOf, IsLikely, IsLikelyFor, IsLikelyOfCase};
+ghost use Rattle.repair_answers.specs.Likely.{IsLikelyOf, IsLikely, IsLikelyFor, IsLikelyOfCase};
 
 use crate::answers::below_of;
-use crate::choices::{Choice, NUMBER, choice_among, cost_of};
+use crate::choices::{Choice, choice_among};
+use crate::numbers_alone::NumbersAlone;
 use crate::singles::first_repairs;
 use crate::unchanged::unchanged;
 use game_case::{Case, Entry, Finding};
 use game_rows::walk_as_written;
 use gcg_read::Record;
 use lex_check::Checked;
-use record_repairs::{Found, Remains, Repair};
+use record_repairs::{Found, Repair};
 use ref_tiles::Rules;
 use repair_pairs::{Pair, pairs};
 use std::alloc::{AllocError, Global};
 
-/// What a word costs that is not in the list.
-const WORD: u128 = 3;
-
-/// Whether a repair is ahead of correcting only the numbers by at least a wrong number; it is if more than numbers is wrong.
-fn is_ahead_of_numbers(remains: &Option<Remains>, repair: &Repair) -> bool
-    ensures { IsTrue result ↔ IsAheadOfNumbers remains.now repair.now }
-{
-    match remains {
-        Some(remains) => {
-            let alone = NUMBER * remains.wrong.len() as u128
-                + WORD * remains.unlisted.len() as u128;
-            alone.saturating_sub(cost_of(repair)) >= NUMBER
-        }
-        None => true,
-    }
-}
+/// How many repairs are looked for: the first, two that only say less, and another one.
+const WANTED: usize = 4;
 
 /// The first of the repairs that were found, if it is the likely one, given some pairs that were found too.
-fn chosen(remains: &Option<Remains>, found: Found, pairs: &[Pair]) -> Option<Repair>
-    ensures { IsLikelyOf remains.now found.told.items found.left.items pairs.now result }
+fn chosen(alone: &Option<NumbersAlone>, found: Found, pairs: &[Pair]) -> Option<Repair>
+    ensures { IsLikelyOf alone.now found.told.items found.left.items pairs.now result }
 {
-    match choice_among(&found, pairs) {
-        Choice::Clear(repair) => {
-            if is_ahead_of_numbers(remains, repair) {
-                found.told.into_iter().next()
-            } else {
-                None
-            }
-        }
-        Choice::None | Choice::Open | Choice::Close | Choice::Pair => None,
+    match choice_among(&found, pairs, alone) {
+        Choice::Clear(_) => found.told.into_iter().next(),
+        _ => None,
     }
 }
 
-/// The likely repair of a record: the first, if it is ahead by at least a wrong number of the second and of the record with only its numbers
-/// corrected, and if no two changes cost less. Afterwards the record is as it was.
+/// The likely repair of a record: the first, if it is ahead by at least a wrong number of all others, but for those that only say less, and of the
+/// record with only its numbers corrected, and if no two changes cost less. Afterwards the record is as it was.
 ///
 /// It fails only if memory runs out.
 pub fn likely_repair(
@@ -63,10 +44,10 @@ pub fn likely_repair(
     ensures same { OnOk result (game.new ≡ game.old) }
 {
     let list = pair.list();
-    let remains = unchanged(alloc, rules, list, game)?;
-    let below = below_of(&remains);
+    let alone = unchanged(alloc, rules, list, game)?;
+    let below = below_of(&alone);
     let walk = walk_as_written(alloc, rules, list, &mut game.events)?;
-    let singles = first_repairs(alloc, rules, pair, &walk, &mut game.events, below, 2)?;
+    let singles = first_repairs(alloc, rules, pair, &walk, &mut game.events, below, WANTED)?;
     let two = pairs(
         alloc,
         rules,
@@ -75,7 +56,7 @@ pub fn likely_repair(
         singles.found.told.as_slice(),
         1,
     )?;
-    Ok(chosen(&remains, singles.found, two.told.as_slice()))
+    Ok(chosen(&alone, singles.found, two.told.as_slice()))
 }
 
 /// The likely repair of a record that was judged, if it is illegal. Afterwards the entry is as it was.

@@ -4,7 +4,8 @@ ghost use Rattle.lex_check.specs.Pairs.{list_in};
 ghost use Rattle.play_changes.specs.PlayChanges.{ArePlayChanges};
 ghost use Rattle.record_repairs.specs.Repairs.{AreFirstRepairs};
 
-use crate::choices::{NUMBER, cost_of};
+use crate::choices::cost_of;
+use crate::numbers_alone::NUMBER;
 use game_rows::Walk;
 use gcg_read::Events;
 use lex_check::Checked;

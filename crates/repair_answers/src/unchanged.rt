@@ -6,6 +6,7 @@ ghost use Rattle.game_turns.specs.Places.{AreAllowed};
 ghost use Rattle.record_repairs.specs.Remaining.{is_on_line, words_of_rows};
 ghost use Rattle.repair_answers.specs.Unchanged.{IsFound, IsUnchanged, AreLeft, HasOtherNumbers};
 
+use crate::numbers_alone::NumbersAlone;
 use deal_cuts::law_of_fronts;
 use event_notes::{SpelledWord, unlisted_of};
 use game_deal::{RackFinding, law_of_bounds, settle_racks};
@@ -70,34 +71,34 @@ fn left_of(alloc: Global, list: &WordList, audited: Audited) -> Result<Remains, 
     Ok(Remains { wrong, unlisted })
 }
 
-/// Whether no racks of a record that passed are ruled out.
-#[tactic(auto, using(crate::proofs::Found::a_game, game_deal::proofs::Outcomes::none_past, game_deal::proofs::Outcomes::none_by, crate::proofs::Found::unsettled))]
-fn may_be_game(alloc: Global, passed: &Passed<'_>) -> Result<bool, AllocError>
+/// Whether a deal was found of the racks of a record that passed; none if no deal yields them.
+#[tactic(auto, using(game_deal::proofs::Outcomes::a_game, game_deal::proofs::Outcomes::none_past, game_deal::proofs::Outcomes::none_by, game_deal::proofs::FoundRacks::left_open))]
+fn is_dealt(alloc: Global, passed: &Passed<'_>) -> Result<Option<bool>, AllocError>
     requires { AreAllowed (rules_in passed.now) (list_in passed.now) (record_in passed.now).events }
     ensures { IfOk result (IsFound (rules_in passed.now) (list_in passed.now) (record_in passed.now).events) }
 {
     law_of_bounds();
     law_of_fronts();
     match settle_racks(alloc, passed)? {
-        RackFinding::Dealt => Ok(true),
-        RackFinding::Unknown => Ok(true),
-        RackFinding::PastBound(_) => Ok(false),
-        RackFinding::NoDeal { .. } => Ok(false),
+        RackFinding::Dealt => Ok(Some(true)),
+        RackFinding::Unknown => Ok(Some(false)),
+        RackFinding::PastBound(_) => Ok(None),
+        RackFinding::NoDeal { .. } => Ok(None),
     }
 }
 
-/// Whether no racks of a record are ruled out, if the rules allow each of its events.
-fn may_be_dealt(
+/// Whether a deal was found of the racks of a record of which the rules allow each event; none if no deal yields them.
+fn settled(
     alloc: Global,
     rules: &Rules,
     list: &WordList,
     game: &Record,
-) -> Result<bool, AllocError>
+) -> Result<Option<bool>, AllocError>
     requires { AreAllowed rules.now list.now game.now.events }
     ensures { IfOk result (IsFound rules.now list.now game.now.events) }
 {
     match play_through(rules, game, list) {
-        Ok(passed) => may_be_game(alloc, &passed),
+        Ok(passed) => is_dealt(alloc, &passed),
         Err(_) => unreachable!(),
     }
 }
@@ -108,8 +109,8 @@ fn with_right_numbers(
     rules: &Rules,
     list: &WordList,
     game: &mut Record,
-) -> Result<Option<Remains>, AllocError>
-    ensures remains { IfOk result (IsUnchanged rules.now list.now game.old.events) }
+) -> Result<Option<NumbersAlone>, AllocError>
+    ensures alone { IfOk result (IsUnchanged rules.now list.now game.old.events) }
     ensures others { OnOk result (HasOtherNumbers game.old game.new) }
 {
     let audited = audit(alloc, rules, list, &mut game.events)?;
@@ -117,11 +118,16 @@ fn with_right_numbers(
         return Ok(None);
     }
     law_of_points(game.events.as_slice());
-    if !may_be_dealt(alloc, rules, list, game)? {
+    let Some(is_game) = settled(alloc, rules, list, game)? else {
         return Ok(None);
-    }
+    };
+    let right = numbers_of(alloc, game.events.as_slice())?;
     let remains = left_of(alloc, list, audited)?;
-    Ok(Some(remains))
+    Ok(Some(NumbersAlone {
+        remains,
+        right,
+        is_game,
+    }))
 }
 
 /// What is wrong with a record if only its numbers are: once they are corrected, the rules allow each event, and no racks are ruled out. `None`
@@ -133,12 +139,12 @@ pub(crate) fn unchanged(
     rules: &Rules,
     list: &WordList,
     game: &mut Record,
-) -> Result<Option<Remains>, AllocError>
-    ensures remains { IfOk result (IsUnchanged rules.now list.now game.old.events) }
+) -> Result<Option<NumbersAlone>, AllocError>
+    ensures alone { IfOk result (IsUnchanged rules.now list.now game.old.events) }
     ensures same { OnOk result (game.new ≡ game.old) }
 {
     let written = numbers_of(alloc, game.events.as_slice())?;
-    let remains = with_right_numbers(alloc, rules, list, game)?;
+    let alone = with_right_numbers(alloc, rules, list, game)?;
     renumber(&mut game.events, written.as_slice());
-    Ok(remains)
+    Ok(alone)
 }

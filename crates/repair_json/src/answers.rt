@@ -3,11 +3,14 @@
 use crate::changes::{RepairObject, repair_object};
 use crate::evidence::{EvidenceObject, evidence_object};
 use crate::pairs::{PairObject, pair_object};
-use answer_json::{FaultObject, VerdictFields, push_object, verdict_fields};
+use answer_json::{
+    FaultObject, UnreadObject, VerdictFields, push_object, unread_objects, verdict_fields,
+};
 use gcg_read::Record;
 use repair_answers::{Faulty, RepairAnswer};
 use serde::Serialize;
 use std::alloc::{AllocError, Global};
+use unread_lines::UnreadLine;
 
 /// An answer. What is said only of an illegal record is null for every other.
 #[derive(Drop, Serialize)]
@@ -21,6 +24,8 @@ struct AnswerObject {
     pairs: Vec<PairObject>,
     left: Option<usize>,
     tried: Option<u128>,
+    numbers_alone_settled: Option<bool>,
+    unread_lines: Vec<UnreadObject>,
 }
 
 /// That a record has no event.
@@ -29,6 +34,7 @@ struct NoGameObject {
     verdict: &'static str,
     line: Option<u32>,
     fault: Option<FaultObject>,
+    unread_lines: Vec<UnreadObject>,
 }
 
 /// The repairs, a line for each.
@@ -71,10 +77,10 @@ fn alone_object(
     record: &Record,
     faulty: &Faulty,
 ) -> Result<Option<EvidenceObject>, AllocError> {
-    match &faulty.unchanged {
-        Some(remains) => {
+    match &faulty.alone {
+        Some(alone) => {
             let numbers = 2 * record.events.len() as u128;
-            Ok(Some(evidence_object(alloc, remains, numbers)?))
+            Ok(Some(evidence_object(alloc, &alone.remains, numbers)?))
         }
         None => Ok(None),
     }
@@ -86,6 +92,7 @@ fn faulty_object(
     fields: VerdictFields,
     record: &Record,
     faulty: &Faulty,
+    unread_lines: Vec<UnreadObject>,
 ) -> Result<AnswerObject, AllocError> {
     Ok(AnswerObject {
         verdict: fields.verdict,
@@ -97,11 +104,17 @@ fn faulty_object(
         pairs: pair_objects(alloc, record, faulty)?,
         left: Some(faulty.found.left.len()),
         tried: Some(faulty.tried),
+        numbers_alone_settled: faulty.alone.as_ref().map(|alone| alone.is_game),
+        unread_lines,
     })
 }
 
 /// The object of any other record.
-fn bare_object(alloc: Global, fields: VerdictFields) -> AnswerObject {
+fn bare_object(
+    alloc: Global,
+    fields: VerdictFields,
+    unread_lines: Vec<UnreadObject>,
+) -> AnswerObject {
     AnswerObject {
         verdict: fields.verdict,
         line: fields.line,
@@ -112,10 +125,12 @@ fn bare_object(alloc: Global, fields: VerdictFields) -> AnswerObject {
         pairs: Vec::new(alloc),
         left: None,
         tried: None,
+        numbers_alone_settled: None,
+        unread_lines,
     }
 }
 
-/// Appends an answer on a record: its verdict and, if it is illegal, its repairs with their evidence.
+/// Appends an answer on a record: its verdict; if it is illegal, its repairs with their evidence; and the lines that are not read.
 ///
 /// It fails only if memory runs out.
 pub fn push_repair_answer(
@@ -123,21 +138,28 @@ pub fn push_repair_answer(
     text: &mut Vec<u8>,
     record: &Record,
     answer: &RepairAnswer,
+    unread: &[UnreadLine],
 ) -> Result<(), AllocError> {
     let fields = verdict_fields(alloc, &answer.verdict)?;
+    let unread = unread_objects(alloc, unread)?;
     let object = match &answer.faulty {
-        Some(faulty) => faulty_object(alloc, fields, record, faulty)?,
-        None => bare_object(alloc, fields),
+        Some(faulty) => faulty_object(alloc, fields, record, faulty, unread)?,
+        None => bare_object(alloc, fields, unread),
     };
     push_object(alloc, text, &object)
 }
 
-/// Appends that a record has no event.
-pub fn push_no_game(alloc: Global, text: &mut Vec<u8>) -> Result<(), AllocError> {
+/// Appends that a record has no event, with the lines that are not read.
+pub fn push_no_game(
+    alloc: Global,
+    text: &mut Vec<u8>,
+    unread: &[UnreadLine],
+) -> Result<(), AllocError> {
     let object = NoGameObject {
         verdict: "no game",
         line: None,
         fault: None,
+        unread_lines: unread_objects(alloc, unread)?,
     };
     push_object(alloc, text, &object)
 }

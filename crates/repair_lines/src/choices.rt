@@ -7,19 +7,15 @@ use repair_answers::{Choice, RepairAnswer, choice_of};
 use repaired_sheets::can_be_written;
 use std::alloc::AllocError;
 
-/// Appends why the sheet with a repair is not written, if it cannot be.
-fn push_unwritten(
-    text: &mut Vec<u8>,
-    players: &Players,
-    repair: &Repair,
-) -> Result<(), AllocError> {
+/// Appends that the sheet with a repair is written, or why it cannot be.
+fn push_written(text: &mut Vec<u8>, players: &Players, repair: &Repair) -> Result<(), AllocError> {
     if can_be_written(players, repair.right.as_slice()) {
-        return Ok(());
+        return text.extend_from_slice(b"written: the sheet with the first repair\n");
     }
     text.extend_from_slice(b"not written: a player of the repaired sheet has no nickname\n")
 }
 
-/// Appends why the repaired sheet is not written, if it is not.
+/// Appends which sheet is written, or why none is.
 ///
 /// It fails only if memory runs out.
 pub fn push_choice(
@@ -28,21 +24,28 @@ pub fn push_choice(
     answer: &RepairAnswer,
 ) -> Result<(), AllocError> {
     let Ok(entry) = &case.read else {
-        return Ok(());
+        return text.extend_from_slice(b"not written: it is not a record\n");
     };
     let Some(faulty) = &answer.faulty else {
         return text.extend_from_slice(b"not written: there is nothing to repair\n");
     };
     match choice_of(faulty) {
-        Choice::Clear(repair) => push_unwritten(text, &entry.record.players, repair),
+        Choice::Clear(repair) => push_written(text, &entry.record.players, repair),
+        Choice::Numbers => text.extend_from_slice(b"written: the sheet with its right numbers\n"),
         Choice::None => text.extend_from_slice(b"not written: no single change repairs it\n"),
         Choice::Open => {
             text.extend_from_slice(
                 b"not written: it is not known whether another change repairs it\n",
             )
         }
+        Choice::NearNumbers => text.extend_from_slice(
+            b"not written: correcting only the numbers is as likely as the first repair, or nearly so\n",
+        ),
         Choice::Close => text.extend_from_slice(
             b"not written: the second repair is nearly as likely as the first\n",
+        ),
+        Choice::Pair if faulty.lines.is_empty() => text.extend_from_slice(
+            b"not written: two changes are as likely as correcting only the numbers, or nearly so\n",
         ),
         Choice::Pair => text.extend_from_slice(
             b"not written: two changes are likelier than the first repair\n",

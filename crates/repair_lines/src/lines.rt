@@ -118,12 +118,29 @@ fn push_pairs(text: &mut Vec<u8>, record: &Record, faulty: &Faulty) -> Result<()
 }
 
 /// Appends that only the numbers are wrong, if that is so.
-fn push_unchanged(text: &mut Vec<u8>, record: &Record, faulty: &Faulty) -> Result<(), AllocError> {
-    let Some(remains) = &faulty.unchanged else {
+fn push_alone(text: &mut Vec<u8>, record: &Record, faulty: &Faulty) -> Result<(), AllocError> {
+    let Some(alone) = &faulty.alone else {
         return Ok(());
     };
-    text.extend_from_slice(b"with only the numbers corrected it is a game\n")?;
-    push_evidence(text, remains, 2 * record.events.len() as u128)
+    text.extend_from_slice(if alone.is_game {
+        b"with only the numbers corrected it is a game\n"
+    } else {
+        b"with only the numbers corrected it may be a game: no deal was found\n"
+    })?;
+    push_evidence(text, &alone.remains, 2 * record.events.len() as u128)
+}
+
+/// Appends lines of repairs.
+fn push_lines(
+    text: &mut Vec<u8>,
+    record: &Record,
+    faulty: &Faulty,
+    lines: &[Told],
+) -> Result<(), AllocError> {
+    for told in lines {
+        push_told(text, record, faulty.found.told.as_slice(), told)?;
+    }
+    Ok(())
 }
 
 /// Appends that no single change helps, if that is so.
@@ -133,9 +150,12 @@ fn push_none(text: &mut Vec<u8>, faulty: &Faulty) -> Result<(), AllocError> {
     }
     text.extend_from_slice(b"none of ")?;
     push_number(text, faulty.tried)?;
-    match &faulty.unchanged {
-        Some(_) => text.extend_from_slice(b" single changes leaves fewer errors\n"),
-        None => text.extend_from_slice(b" single changes makes it a game\n"),
+    text.extend_from_slice(b" single changes ")?;
+    match (&faulty.alone, faulty.found.left.is_empty()) {
+        (Some(_), true) => text.extend_from_slice(b"leaves fewer errors\n"),
+        (Some(_), false) => text.extend_from_slice(b"is known to leave fewer errors\n"),
+        (None, true) => text.extend_from_slice(b"makes it a game\n"),
+        (None, false) => text.extend_from_slice(b"is known to make it a game\n"),
     }
 }
 
@@ -155,12 +175,17 @@ fn push_left(text: &mut Vec<u8>, faulty: &Faulty) -> Result<(), AllocError> {
     )
 }
 
-/// Appends what repairs an illegal record.
+/// The first lines, and those after them.
+fn cut_at(lines: &[Told], number: usize) -> (&[Told], &[Told]) {
+    lines.split_at(number.min(lines.len()))
+}
+
+/// Appends what repairs an illegal record, in the order of what it costs.
 fn push_faulty(text: &mut Vec<u8>, record: &Record, faulty: &Faulty) -> Result<(), AllocError> {
-    push_unchanged(text, record, faulty)?;
-    for told in faulty.lines.as_slice() {
-        push_told(text, record, faulty.found.told.as_slice(), told)?;
-    }
+    let (before, after) = cut_at(faulty.lines.as_slice(), faulty.before_numbers);
+    push_lines(text, record, faulty, before)?;
+    push_alone(text, record, faulty)?;
+    push_lines(text, record, faulty, after)?;
     push_none(text, faulty)?;
     push_left(text, faulty)?;
     push_pairs(text, record, faulty)

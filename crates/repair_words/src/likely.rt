@@ -44,10 +44,32 @@ pub fn push_likely(
     record: &Record,
     likely: Option<&Repair>,
 ) -> Result<(), AllocError> {
-    let Some(repair) = likely else {
+    push_suggested(text, record, b"Likely: ", likely)
+}
+
+/// Appends a bonus or a penalty that would explain the numbers of a record, if there is one: its change on a line that begins with `Or: `, and its
+/// evidence.
+///
+/// It fails only if memory runs out.
+pub fn push_amount(
+    text: &mut Vec<u8>,
+    record: &Record,
+    amount: Option<&Repair>,
+) -> Result<(), AllocError> {
+    push_suggested(text, record, b"Or: ", amount)
+}
+
+/// Appends a repair after these words, if there is one, and its evidence.
+fn push_suggested(
+    text: &mut Vec<u8>,
+    record: &Record,
+    words: &[u8],
+    repair: Option<&Repair>,
+) -> Result<(), AllocError> {
+    let Some(repair) = repair else {
         return Ok(());
     };
-    text.extend_from_slice(b"Likely: ")?;
+    text.extend_from_slice(words)?;
     push_change_of(text, record, repair)?;
     text.extend_from_slice(b"\n")?;
     let numbers = numbers_with(&repair.listed.change.slip, record.events.len());

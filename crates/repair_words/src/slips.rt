@@ -5,7 +5,9 @@ use crate::names::nick;
 use crate::plays::{have_one_position, have_one_word};
 use crate::words::{push_kind, push_position, push_word};
 use gcg_read::{Event, EventKind, Players};
-use record_changes::{Slip, TilesOf};
+use record_changes::{Slip, SpellingSlip, TilesOf};
+use ref_board::{Dir, Square};
+use ref_tiles::Symbol;
 use sentence_parts::{Part, say};
 use std::alloc::AllocError;
 
@@ -30,6 +32,62 @@ fn push_spelled(text: &mut Vec<u8>, right: &Event, written: &Event) -> Result<()
     push_not(text)?;
     match &written.kind {
         EventKind::Play { word, .. } => push_word(text, word.as_slice()),
+        _ => Ok(()),
+    }
+}
+
+/// The square of the symbol at a place of a play.
+fn square_of(at: Square, dir: Dir, place: usize) -> Option<Square> {
+    match dir {
+        Dir::Across => Square::new(at.row(), at.column().saturating_add(place)),
+        Dir::Down => Square::new(at.row().saturating_add(place), at.column()),
+    }
+}
+
+/// Appends which tile of a play is a blank, or is none.
+fn push_blank(
+    text: &mut Vec<u8>,
+    right: &Event,
+    place: usize,
+    symbol: Symbol,
+) -> Result<(), AllocError> {
+    let EventKind::Play { at, dir, .. } = &right.kind else {
+        return Ok(());
+    };
+    let Some(square) = square_of(*at, *dir, place) else {
+        return Ok(());
+    };
+    let byte = symbol.byte();
+    let is_blank = byte.is_ascii_lowercase();
+    say(
+        text,
+        &[
+            Part::Say(": the "),
+            Part::Letter(byte.to_ascii_uppercase()),
+            Part::Say(" on "),
+            Part::At(square),
+            Part::Say(if is_blank {
+                " is a blank"
+            } else {
+                " is not a blank"
+            }),
+        ],
+    )
+}
+
+/// Appends that a play has another text, and if a blank is a letter there, or a letter a blank, which one.
+fn push_text(
+    text: &mut Vec<u8>,
+    slip: &SpellingSlip,
+    right: &Event,
+    written: &Event,
+) -> Result<(), AllocError> {
+    push_spelled(text, right, written)?;
+    match slip {
+        SpellingSlip::OtherTile {
+            place,
+            right: symbol,
+        } => push_blank(text, right, *place, *symbol),
         _ => Ok(()),
     }
 }
@@ -139,7 +197,7 @@ fn push_changed(
 ) -> Result<(), AllocError> {
     match slip {
         Slip::Position(_) => push_moved(text, right, written),
-        Slip::Spelling(_) => push_spelled(text, right, written),
+        Slip::Spelling(slip) => push_text(text, slip, right, written),
         Slip::Replayed(_) => push_replayed(text, right, written),
         Slip::Tile { of, .. } => push_tiles(text, *of, right, written),
         Slip::NoRack => push_racks(text, right, written),

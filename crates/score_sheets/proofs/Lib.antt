@@ -1,4 +1,5 @@
 pub mod WalkRows
+pub mod GainLaws
 pub mod SheetRows
 pub mod BoardSteps
 pub mod PositionSteps

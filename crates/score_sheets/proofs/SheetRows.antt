@@ -5,10 +5,8 @@ use Rattle.std.proofs.lemmas.Bool.{ltb-false, ltb-true}
 use Rattle.std.proofs.lemmas.Option.{same_Some, slice_get_past, slice_get_read}
 use Rattle.ref_tiles.specs.declared.rulebook.Rules.{Rules}
 use Rattle.gcg_read.specs.declared.events.Event.{Event}
-use Rattle.gcg_read.specs.declared.events.Seat.{Seat}
 use Rattle.score_sheets.specs.declared.rows.SheetRow.{SheetRow}
 use Rattle.score_sheets.specs.Rows.{IsSheetRowAt, AreSheetRows}
-use Rattle.score_sheets.specs.Sums.{gain_of, gains_to}
 
 append_within : {X : Type 0} (xs : List X) (x y : X) (k : ℕ) → slice_get (xs ++ x ∷ []) k ≡ Some y → k < length xs → slice_get xs k ≡ Some y
 append_within [] x y k is within = absurd (omega arith)
@@ -68,20 +66,9 @@ rows_more rules list written right place rows more row are at pushed =
       each = one_more (IsSheetRowAt rules list written right) rows row are.each (subst (λ n. IsSheetRowAt rules list written right n row) (sym are.as_many) at);
     })
 
--- ---- sums of rows
+-- ---- the row at a place
 
 pub copied_sheet_row : (rows : List SheetRow) (place : ℕ) (o : Option (Bor SheetRow)) → is_some o ≡ nat_lt place (length rows) → IfSome o (λ x. x.now ≡ get_or rows place x.now)
     → option_copied o ≡ slice_get rows place
 copied_sheet_row rows place None there item = sym (slice_get_past rows place (ltb-false place (length rows) (sym there)))
 copied_sheet_row rows place (Some x) there item = sym (slice_get_read rows (length rows) place x.now refl (ltb-true place (length rows) (sym there)) item)
-
-pub gains_none : (player : Seat) (events : List Event) (rows : List SheetRow) → 0 ≡ gains_to player events rows 0
-unfolding gains_to
-gains_none player events rows = refl
-
-pub gains_more : (player : Seat) (events : List Event) (rows : List SheetRow) (place : ℕ)
-    → gains_to player events rows (place + 1) ≡ gains_to player events rows place + gain_of player (slice_get events place) (slice_get rows place)
-unfolding gains_to
-gains_more player events rows place =
-    let next : place + 1 ≡ suc place = omega arith in
-    ap (gains_to player events rows) next

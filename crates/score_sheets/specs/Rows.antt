@@ -15,8 +15,10 @@ use Rattle.game_rows.specs.Numbers.{numbers_in}
 use Rattle.event_notes.specs.declared.bests.TurnBest.{TurnBest}
 use Rattle.event_notes.specs.declared.unlisted.SpelledWord.{SpelledWord}
 use Rattle.event_notes.specs.Bests.{IsTurnBest}
+use Rattle.score_sheets.specs.Gains.{given_by}
 use Rattle.event_notes.specs.Unlisted.{letters_in, unlisted_of}
 use Rattle.score_sheets.specs.declared.rows.SheetRow.{SheetRow}
+use Rattle.score_sheets.specs.Unders.{known_under}
 
 -- what a number should be, if it is wrong
 abbrev pub should_be : (written right : ℤ) → Option ℤ
@@ -54,7 +56,8 @@ IsNotedAt rules list events place false unlisted = (AreAllowedTo rules list even
 
 -- A row is that of the event at a place, counted from 0, of the events as they are written; `right` are the same events with their right numbers.
 -- It has what its numbers should be exactly if they are wrong. Its best play is that of the state before the event, by the right numbers of the
--- events before it.
+-- events before it, for a turn that gave its right score, and nothing if it is taken back; and it has what is on the squares of that play before the
+-- event.
 pub record IsSheetRowAt (rules : Rules) (list : List (List ℕ)) (written right : List Event) (place : ℕ) (row : SheetRow) : Type 0 where
   pub own : Event
   pub event : Event
@@ -62,7 +65,8 @@ pub record IsSheetRowAt (rules : Rules) (list : List (List ℕ)) (written right 
   pub stands : slice_get right place ≡ Some event
   pub score : row.score ≡ should_be own.score event.score
   pub total : row.total ≡ should_be own.total event.total
-  pub best : IsBestAt rules list right place event event.score row.best
+  pub best : IsBestAt rules list right place event (given_by (withdraws (slice_get written (place + 1))) event.score) row.best
+  pub under : row.under.items ≡ known_under (tally_at rules right place).board row.best
   pub noted : IsNotedAt rules list right place row.allowed row.unlisted.items
   pub taken_back : row.taken_back ≡ withdraws (slice_get written (place + 1))
 

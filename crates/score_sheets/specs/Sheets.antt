@@ -1,5 +1,5 @@
 -- The score sheet of a record.
-use Rattle.std.specs.Prelude.{◌≡◌, ℕ, List, length, IfSome}
+use Rattle.std.specs.Prelude.{◌≡◌, ℕ, List, length}
 use Rattle.ref_tiles.specs.declared.rulebook.Rules.{Rules}
 use Rattle.gcg_read.specs.declared.events.Event.{Event}
 use Rattle.gcg_read.specs.declared.events.Seat.TheVariants.{First, Second}
@@ -9,7 +9,8 @@ use Rattle.score_sheets.specs.declared.sheets.ScoreSheet.{ScoreSheet}
 use Rattle.score_sheets.specs.Boards.{ArePictures, IsShownAt}
 use Rattle.score_sheets.specs.Positions.{ArePositions}
 use Rattle.score_sheets.specs.Rows.{AreSheetRows}
-use Rattle.score_sheets.specs.Sums.{gains_to, IsStanding}
+use Rattle.score_sheets.specs.Gains.{gains_to, IsGain}
+use Rattle.score_sheets.specs.Sums.{best_of, IsStanding}
 
 -- A score sheet of a record, by the same events with their right numbers: its players and its events, the last totals and who is ahead by them, a
 -- row for each event in order and how many points more the best plays of each player would have given, the boards after the events and what is
@@ -21,8 +22,8 @@ pub record IsScoreSheet (rules : Rules) (list : List (List ℕ)) (r : Record) (r
   pub second : sheet.second_total ≡ last_total Second r.events
   pub standing : IsStanding (last_total First r.events) (last_total Second r.events) sheet.standing
   pub rows : AreSheetRows rules list r.events right (length r.events) sheet.rows.items
-  pub first_gains : IfSome sheet.first_gains (λ gains. gains ≡ gains_to First r.events sheet.rows.items (length r.events))
-  pub second_gains : IfSome sheet.second_gains (λ gains. gains ≡ gains_to Second r.events sheet.rows.items (length r.events))
+  pub first_gains : IsGain (gains_to First r.events (best_of sheet.rows.items) (length r.events)) sheet.first_gains
+  pub second_gains : IsGain (gains_to Second r.events (best_of sheet.rows.items) (length r.events)) sheet.second_gains
   pub boards : ArePictures r.events sheet.boards.items
   pub positions : ArePositions rules r.events sheet.boards.items (length sheet.boards.items) sheet.positions.items
   pub shown : IsShownAt r.events place sheet.shown

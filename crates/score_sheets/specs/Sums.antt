@@ -1,39 +1,19 @@
--- How many points more the best plays of a sheet would have given, and who is ahead.
-use Rattle.std.specs.Prelude.{◌≡◌, ℕ, zero, suc, ◌+◌, ℤ, pos, negsuc, ◌+ℤ◌, ◌<ℤ◌, List, slice_get, Option, Some, None, if◌then◌else◌}
-use Rattle.gcg_read.specs.Players.{same_seat}
-use Rattle.gcg_read.specs.declared.events.Seat.{Seat}
+-- What the rows of a sheet say of the best plays, and who is ahead.
+use Rattle.std.specs.Prelude.{◌≡◌, ℕ, ℤ, pos, ◌+ℤ◌, ◌<ℤ◌, List, slice_get, Option, Some, None}
 use Rattle.gcg_read.specs.declared.events.Seat.TheVariants.{First, Second}
-use Rattle.gcg_read.specs.declared.events.Event.{Event}
 use Rattle.event_notes.specs.declared.bests.TurnBest.{TurnBest}
-use Rattle.event_notes.specs.declared.bests.TurnBest.TheVariants as best
 use Rattle.score_sheets.specs.declared.rows.SheetRow.{SheetRow}
 use Rattle.score_sheets.specs.declared.sums.Standing.{Standing}
 use Rattle.score_sheets.specs.declared.sums.Standing.TheVariants as standing
 
--- a number if it is above 0, and otherwise 0
-abbrev pub above_zero : ℤ → ℕ
-above_zero (pos n) = n
-above_zero (negsuc n) = 0
+-- what is said of the best play in a row, if there is a row that says it
+abbrev pub best_in : Option SheetRow → Option TurnBest
+best_in None = None
+best_in (Some row) = row.best
 
--- how many points more the best play would have given, or 0
-abbrev pub gain_in : Option TurnBest → ℕ
-gain_in None = 0
-gain_in (Some best.NoTurn) = 0
-gain_in (Some best.NotShown) = 0
-gain_in (Some best.NoPlay) = 0
-gain_in (Some (best.Best b)) = above_zero b.more
-
--- the same for an event of a player
-abbrev pub gain_of : Seat → Option Event → Option SheetRow → ℕ
-gain_of player (Some e) (Some row) = if same_seat e.player player then gain_in row.best else 0
-gain_of player (Some e) None = 0
-gain_of player None row = 0
-
--- how many points more the best plays of a player's events before a place would have given in all; an event whose best play gives less
--- counts as 0
-unfoldable pub gains_to : Seat → List Event → List SheetRow → (end : ℕ) → ℕ
-gains_to player events rows zero = 0
-gains_to player events rows (suc place) = gains_to player events rows place + gain_of player (slice_get events place) (slice_get rows place)
+-- the same for the row of the event at a place
+abbrev pub best_of : List SheetRow → (place : ℕ) → Option TurnBest
+best_of rows place = best_in (slice_get rows place)
 
 -- a total, or 0 if none is written
 abbrev pub total_in : Option ℤ → ℤ

@@ -6,13 +6,16 @@
 #![tactic(auto)]
 
 mod boards;
+mod gains;
 mod pictures;
 mod positions;
 mod rows;
 mod sheets;
 mod sums;
+mod unders;
 
 pub use boards::{pictures_of, shown_at};
+pub use gains::{gain_in, given_by};
 pub use pictures::Picture;
 pub use positions::{LaidPlay, PlayedTile, Position, positions_of};
 pub use rows::{SheetRow, rows_of};

@@ -4,11 +4,15 @@ ghost use Rattle.std.specs.Option.{option_copied};
 ghost use Rattle.ref_tiles.specs.declared.rulebook.Rules.{Rules};
 ghost use Rattle.gcg_read.specs.declared.events.Event.{Event};
 ghost use Rattle.lex_check.specs.Pairs.{list_in};
+ghost use Rattle.game_turns.specs.Tallies.{tally_at};
 ghost use Rattle.game_notes.specs.Following.{Follows};
 ghost use Rattle.game_rows.specs.Walks.{IsWalk};
+ghost use Rattle.score_sheets.specs.Unders.{known_under};
 ghost use Rattle.score_sheets.specs.Rows.{should_be, numbers_behind, HasNumbersAt, IsBeforeAt, IsBestAt, IsNotedAt, IsSheetRowAt, AreSheetRows};
 
 use crate::boards::is_taken_back;
+use crate::gains::given_by;
+use crate::unders::cells_under;
 use event_notes::{SpelledWord, TurnBest, best_of_turn, unlisted_of};
 use game_notes::Follow;
 use game_rows::{Numbers, Row, Stop, Walk};
@@ -16,7 +20,7 @@ use game_turns::{Machine, legal_play};
 use gcg_read::{Event, EventKind, Points};
 use lex_check::Checked;
 use lex_list::WordList;
-use ref_tiles::Rules;
+use ref_tiles::{Rules, Tile};
 use std::alloc::{AllocError, Global};
 
 /// What a score sheet says of an event besides its line.
@@ -28,6 +32,8 @@ pub struct SheetRow {
     pub total: Option<Points>,
     /// What is said of the best play, if the rules allow the events before it with their right numbers.
     pub best: Option<TurnBest>,
+    /// What is on the squares of the best play before the event, if there is one.
+    pub under: Vec<Option<Tile>>,
     /// Whether the rules allow the event and those before it with their right numbers.
     pub allowed: bool,
     /// The words of a play that stands which are not in the list, if the event is allowed.
@@ -97,23 +103,43 @@ fn game_before(walk: &Walk, place: usize) -> Option<&Machine>
     }
 }
 
-/// What is said of the best play of the event at a place, whose score should be this one.
+/// What is said of the best play of an event.
+#[derive(Drop)]
+struct BestThere {
+    best: Option<TurnBest>,
+    /// What is on the squares of the best play before the event, if there is one.
+    under: Vec<Option<Tile>>,
+}
+
+/// What is said of the best play of the event at a place, which gave `gave` points.
 fn best_at(
+    alloc: Global,
     rules: &Rules,
     pair: &Checked<'_>,
     walk: &Walk,
     follow: &Follow,
     place: usize,
     event: &Event,
-    gave: Points,
-) -> Option<TurnBest>
+    gave: i32,
+) -> Result<BestThere, AllocError>
     requires { Follows rules.now (list_in pair.now) follow.now }
-    ensures { (written right : List Event) → IsWalk rules.now (list_in pair.now) written right walk.now
-        → place < length written → IsBestAt rules.now (list_in pair.now) right place event.now gave result }
+    ensures { IfOk result (λ there. (written right : List Event) → IsWalk rules.now (list_in pair.now) written right walk.now → place < length written
+        → IsBestAt rules.now (list_in pair.now) right place event.now gave there.best
+        × (there.under.items ≡ known_under (tally_at rules.now right place).board there.best)) }
 {
     match game_before(walk, place) {
-        Some(machine) => { Some(best_of_turn(rules, pair, machine, follow, event, gave.value())) }
-        None => None,
+        Some(machine) => {
+            let best = best_of_turn(rules, pair, machine, follow, event, gave);
+            let under = cells_under(alloc, machine.board(), &best)?;
+            Ok(BestThere {
+                best: Some(best),
+                under,
+            })
+        }
+        None => Ok(BestThere {
+            best: None,
+            under: Vec::new(alloc),
+        }),
     }
 }
 
@@ -161,15 +187,18 @@ fn row_at(
 {
     let event = &events[place];
     let right = right_numbers(walk, place, event);
-    let best = best_at(rules, pair, walk, follow, place, event, right.score);
+    let taken_back = is_taken_back(events, place);
+    let gave = given_by(taken_back, right.score);
+    let there = best_at(alloc, rules, pair, walk, follow, place, event, gave)?;
     let noted = noted_at(alloc, pair.list(), walk, place)?;
     Ok(SheetRow {
         score: should_be(event.score, right.score),
         total: should_be(event.total, right.total),
-        best,
+        best: there.best,
+        under: there.under,
         allowed: noted.allowed,
         unlisted: noted.unlisted,
-        taken_back: is_taken_back(events, place),
+        taken_back,
     })
 }
 

@@ -1,11 +1,12 @@
 //! The score sheet of a record.
-ghost use Rattle.std.specs.Prelude.{◌≡◌, ◌≤◌, List, length, IfOk, IfSome};
+ghost use Rattle.std.specs.Prelude.{◌≤◌, List, length, IfOk};
 ghost use Rattle.gcg_read.specs.declared.events.Event.{Event};
 ghost use Rattle.lex_check.specs.Pairs.{list_in};
 ghost use Rattle.game_rows.specs.Walks.{IsWalk};
+ghost use Rattle.score_sheets.specs.Gains.{gains_to, IsGain};
 ghost use Rattle.score_sheets.specs.Positions.{ArePositions};
 ghost use Rattle.score_sheets.specs.Sheets.{IsScoreSheet};
-ghost use Rattle.score_sheets.specs.Sums.{gains_to};
+ghost use Rattle.score_sheets.specs.Sums.{best_of};
 
 use crate::boards::{pictures_of, shown_at};
 use crate::pictures::Picture;
@@ -34,7 +35,7 @@ pub struct ScoreSheet<'a> {
     pub standing: Standing,
     /// What it says of each event, in their order.
     pub rows: Vec<SheetRow>,
-    /// How many points more the best plays of the first player would have given in all; none if that is 2^64 or more.
+    /// How many points more the best plays of the first player would have given in all; none exactly if that is 2^64 or more.
     pub first_gains: Option<u64>,
     /// The same for the other player.
     pub second_gains: Option<u64>,
@@ -59,9 +60,9 @@ fn positions_in(
     positions_of(alloc, rules, events, boards.as_slice())
 }
 
-/// How many points more the best plays of a player's events would have given in all. None if that is 2^64 or more.
+/// How many points more the best plays of a player's events would have given in all. None exactly if that is 2^64 or more.
 fn gains_in(player: Seat, events: &[Event], rows: &Vec<SheetRow>) -> Option<u64>
-    ensures { IfSome result (λ gains. gains ≡ gains_to player events.now rows.now.items (length events.now)) }
+    ensures { IsGain (gains_to player events.now (best_of rows.now.items) (length events.now)) result }
 {
     gains_of(player, events, rows.as_slice())
 }

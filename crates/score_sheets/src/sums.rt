@@ -1,22 +1,14 @@
 //! How many points more the best plays of a sheet would have given, and who is ahead.
-ghost use Rattle.std.specs.Prelude.{◌≡◌, IfSome, length, slice_get};
+ghost use Rattle.std.specs.Prelude.{◌≡◌, length, slice_get};
 ghost use Rattle.std.specs.Option.{option_copied};
 ghost use Rattle.gcg_read.specs.Numerals.{IsPoints};
-ghost use Rattle.score_sheets.specs.Sums.{gain_in, gain_of, gains_to, total_in, IsStanding};
+ghost use Rattle.score_sheets.specs.Gains.{known_gain, gain_of, gains_to, IsGain};
+ghost use Rattle.score_sheets.specs.Sums.{best_in, best_of, total_in, IsStanding};
 
+use crate::gains::gain_in;
 use crate::rows::SheetRow;
 use event_notes::TurnBest;
 use gcg_read::{Event, Points, Seat, same_seat};
-
-/// How many points more the best play would have given, or 0.
-fn gain_in(best: &Option<TurnBest>) -> u64
-    ensures { result ≡ gain_in best.now }
-{
-    match best {
-        Some(TurnBest::Best(best)) if best.more > 0 => best.more as u64,
-        _ => 0,
-    }
-}
 
 /// The event at a place, if there is one.
 #[tactic(auto, using(game_turns::proofs::PlaceLaws::copied_get))]
@@ -34,24 +26,48 @@ fn row_at(rows: &[SheetRow], place: usize) -> Option<&SheetRow>
     rows.get(place)
 }
 
-/// How many points more the best play of an event of a player would have given, or 0.
-fn gain_of(player: Seat, event: Option<&Event>, row: Option<&SheetRow>) -> u64
-    ensures { result ≡ gain_of player (option_copied event.entry) (option_copied row.entry) }
+/// How many points more the best play would have given, or 0 if it is not known.
+fn known_gain(best: &Option<TurnBest>) -> u64
+    ensures { result ≡ known_gain best.now }
 {
-    match (event, row) {
-        (Some(event), Some(row)) if same_seat(event.player, player) => gain_in(&row.best),
+    match best {
+        Some(best) => gain_in(best),
+        None => 0,
+    }
+}
+
+/// The same for the best play of a row, and 0 if there is no row.
+fn gain_in_row(row: Option<&SheetRow>) -> u64
+    ensures { result ≡ known_gain (best_in (option_copied row.entry)) }
+{
+    match row {
+        Some(row) => known_gain(&row.best),
+        None => 0,
+    }
+}
+
+/// The same for an event of a player with its row, and 0 for other events.
+fn gain_of(player: Seat, event: Option<&Event>, row: Option<&SheetRow>) -> u64
+    ensures { result ≡ gain_of player (option_copied event.entry) (best_in (option_copied row.entry)) }
+{
+    match event {
+        Some(event) if same_seat(event.player, player) => gain_in_row(row),
         _ => 0,
     }
 }
 
-/// How many points more the best plays of a player's events would have given in all. None if that is 2^64 or more.
-#[tactic(auto, using(crate::proofs::SheetRows::gains_none, crate::proofs::SheetRows::gains_more))]
+/// How many points more the best plays of a player's events would have given in all. None exactly if that is 2^64 or more.
+#[tactic(auto, using(crate::proofs::GainLaws::gains_none, crate::proofs::GainLaws::gains_more, crate::proofs::GainLaws::too_many))]
 pub fn gains_of(player: Seat, events: &[Event], rows: &[SheetRow]) -> Option<u64>
-    ensures { IfSome result (λ gains. gains ≡ gains_to player events.now rows.now (length events.now)) }
+    ensures { IsGain (gains_to player events.now (best_of rows.now) (length events.now)) result }
 {
     let mut gains = 0_u64;
     for place in 0..events.len() {
-        gains = gains.checked_add(gain_of(player, event_at(events, place), row_at(rows, place)))?;
+        let more = gain_of(player, event_at(events, place), row_at(rows, place));
+        let Some(sum) = gains.checked_add(more) else {
+            return None;
+        };
+        gains = sum;
     }
     Some(gains)
 }

@@ -23,6 +23,7 @@ use serve_answers::{Reply, Ruled, ToldCase, reply_to};
 use serve_requests::Request;
 use sheet_json::{push_audit_answer, push_shown_board};
 use std::alloc::{AllocError, Global};
+use unread_lines::{UnreadLine, unread_lines};
 
 /// The rules, the words and the maker by which requests are answered.
 #[derive(Clone, Copy)]
@@ -80,16 +81,27 @@ fn tell_refusal(alloc: Global, decision: &Decision) -> Result<Response, AllocErr
     Ok(Response::object(Exit::from(decision.verdict), text))
 }
 
+/// The lines that are not read of the record of a request for a judged game, an audit or a board.
+fn unread_of(alloc: Global, request: &Request<'_>) -> Result<Vec<UnreadLine>, AllocError> {
+    match request {
+        Request::Judge { game, .. } | Request::Audit { game, .. } | Request::Board { game, .. } => {
+            unread_lines(alloc, game.as_bytes())
+        }
+        _ => Ok(Vec::new(alloc)),
+    }
+}
+
 /// A judged game.
 fn tell_judged(
     alloc: Global,
     found: &Result<JudgedGame, Decision>,
+    unread: &[UnreadLine],
 ) -> Result<Response, AllocError> {
     match found {
         Err(decision) => tell_refusal(alloc, decision),
         Ok(game) => {
             let mut text = Vec::new(alloc);
-            push_judged_game(alloc, &mut text, game)?;
+            push_judged_game(alloc, &mut text, game, unread)?;
             Ok(Response::object(Exit::from(game.verdict), text))
         }
     }
@@ -121,9 +133,10 @@ fn tell_audit(
     alloc: Global,
     answer: &AuditAnswer,
     corrected: bool,
+    unread: &[UnreadLine],
 ) -> Result<Response, AllocError> {
     let mut object = Vec::new(alloc);
-    push_audit_answer(alloc, &mut object, answer)?;
+    push_audit_answer(alloc, &mut object, answer, unread)?;
     let exit = exit_of_audit(&answer.audit);
     if !corrected || !is_corrected(&answer.audit) {
         return Ok(Response::object(exit, object));
@@ -140,10 +153,11 @@ fn tell_audited(
     alloc: Global,
     found: &Result<AuditAnswer, Decision>,
     corrected: bool,
+    unread: &[UnreadLine],
 ) -> Result<Response, AllocError> {
     match found {
         Err(decision) => tell_refusal(alloc, decision),
-        Ok(answer) => tell_audit(alloc, answer, corrected),
+        Ok(answer) => tell_audit(alloc, answer, corrected, unread),
     }
 }
 
@@ -159,12 +173,13 @@ fn exit_of_board(shown: &Option<ShownBoard>) -> Exit {
 fn tell_board(
     alloc: Global,
     found: &Result<Option<ShownBoard>, Decision>,
+    unread: &[UnreadLine],
 ) -> Result<Response, AllocError> {
     match found {
         Err(decision) => tell_refusal(alloc, decision),
         Ok(shown) => {
             let mut text = Vec::new(alloc);
-            push_shown_board(alloc, &mut text, shown)?;
+            push_shown_board(alloc, &mut text, shown, unread)?;
             Ok(Response::object(exit_of_board(shown), text))
         }
     }
@@ -263,11 +278,14 @@ fn tell_reply(
 ) -> Result<Response, AllocError>
     requires { IsReplyTo judges.now.rules.now (list_in judges.now.pair.now) request.now reply }
 {
+    let unread = unread_of(alloc, request)?;
     match reply {
-        Reply::Judged(found) => tell_judged(alloc, &found),
+        Reply::Judged(found) => tell_judged(alloc, &found, unread.as_slice()),
         Reply::Explained(told) => tell_explained(alloc, judges, &told, line_of(request)),
-        Reply::Audited(found) => tell_audited(alloc, &found, asks_corrected(request)),
-        Reply::Boarded(found) => tell_board(alloc, &found),
+        Reply::Audited(found) => {
+            tell_audited(alloc, &found, asks_corrected(request), unread.as_slice())
+        }
+        Reply::Boarded(found) => tell_board(alloc, &found, unread.as_slice()),
         Reply::Found(found) => tell_plays(alloc, &found),
         Reply::Ruled(ruled) => tell_ruled(alloc, &ruled),
         Reply::Tidied(decision) => tell_tidied(alloc, decision),

@@ -66,9 +66,20 @@ fn text_of(
         &answer.repaired,
     )?;
     if kept {
-        push_choice(&mut told, &answer.comparison, &answer.repaired)?;
+        let named = is_named(sheets, answer);
+        push_choice(&mut told, &answer.comparison, &answer.repaired, named)?;
     }
     in_utf8(alloc, told, encoding)
+}
+
+/// Whether each player of the best choice, or of the best repair if no choice makes a game, has a nickname.
+fn is_named(sheets: &Sheets, answer: &Answer) -> bool {
+    let players = &sheets.first.players;
+    match (&answer.comparison.find.best, answer.repaired.best_repair()) {
+        (Some(best), _) => can_be_written(players, best.right.as_slice()),
+        (None, Some(repair)) => can_be_written(players, repair.right.as_slice()),
+        (None, None) => true,
+    }
 }
 
 /// Whether two sheets agree in everything, and every number of both is right.

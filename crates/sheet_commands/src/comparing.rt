@@ -2,8 +2,8 @@
 
 use crate::compared::compare_records;
 use command_files::{
-    NO_GAME, UsedOutput, advise_bad_record, advise_no_game, given_up, has_no_event, open_sheet,
-    used_source, write_beside, write_out,
+    NO_GAME, UsedOutput, advise_bad_record, advise_no_game, advise_unread, given_up, has_no_event,
+    open_sheet, used_source, write_beside, write_out,
 };
 use exit_statuses::{Exit, Trouble};
 use game_case::{Case, case_line, open_case};
@@ -57,7 +57,7 @@ fn record_of(case: Case) -> Option<Record> {
     }
 }
 
-/// Opens the second sheet, and reports what is wrong with it if it has no record.
+/// Opens the second sheet, and reports what is wrong with it if it has no record. Says which of its lines are not read although they look like events.
 fn open_second<'a, R: Runtime + AllocGlobal>(
     rt: &R,
     rules: &Rules,
@@ -77,8 +77,10 @@ fn open_second<'a, R: Runtime + AllocGlobal>(
         let exit = tell_bad(rt, &case, out)?;
         advise_bad_record(rt, second, sheet.inner().front());
         advise_no_game(rt, second, sheet.inner().front());
+        advise_unread(rt, second, sheet.inner().front());
         return Ok(Second::Bad(exit));
     }
+    advise_unread(rt, second, sheet.inner().front());
     match record_of(case) {
         Some(game) => Ok(Second::Good(game)),
         None => Ok(Second::Bad(Exit::BadInput)),

@@ -3,15 +3,17 @@ ghost use Rattle.lex_check.specs.Pairs.{list_in};
 ghost use Rattle.game_case.specs.Explaining.{HasItsWalk};
 
 use crate::encodings::in_utf8;
+use call_stages::GameFault;
 use command_files::{NO_GAME, has_no_event, write};
 use exit_statuses::{Exit, Trouble, exit_of_case};
 use explain_lines::push_explanation;
-use game_case::{Case, Entry};
+use game_case::{Case, Entry, Finding};
+use game_turns::RuleFault;
 use lex_check::Checked;
 use name_texts::Encoding;
 use ref_tiles::Rules;
-use repair_answers::likely_in;
-use repair_words::push_likely;
+use repair_answers::{amount_repair, likely_in};
+use repair_words::{push_amount, push_likely};
 use std::alloc::{AllocError, Global};
 use std::rt::Runtime;
 
@@ -37,7 +39,8 @@ pub fn tell_case<'a, R: Runtime + AllocGlobal>(
     Ok(exit_of_case(case, line))
 }
 
-/// Appends the likely repair of the record of an entry, if the record is illegal and has one.
+/// Appends the likely repair of the record of an entry, if the record is illegal and has one; or else a bonus or a penalty that would explain its
+/// numbers, if there is one.
 fn push_likely_in(
     alloc: Global,
     told: &mut Vec<u8>,
@@ -46,7 +49,22 @@ fn push_likely_in(
     entry: &mut Entry,
 ) -> Result<(), AllocError> {
     let likely = likely_in(alloc, rules, pair, entry)?;
-    push_likely(told, &entry.record, likely.as_ref())
+    if likely.is_some() || !has_wrong_total(entry) {
+        return push_likely(told, &entry.record, likely.as_ref());
+    }
+    let amount = amount_repair(alloc, rules, pair, &mut entry.record)?;
+    push_amount(told, &entry.record, amount.as_ref())
+}
+
+/// Whether the first fault of a record is a wrong total.
+fn has_wrong_total(entry: &Entry) -> bool {
+    matches!(
+        entry.finding,
+        Finding::Illegal {
+            fault: GameFault::Rule(RuleFault::WrongTotal(_)),
+            ..
+        }
+    )
 }
 
 /// What explains a case, or one of its lines. If the record states its encoding, names in it are UTF-8.

@@ -6,18 +6,21 @@ use crate::encodings::in_utf8;
 use command_files::{NO_GAME, has_no_event, write_beside, write_out};
 use exit_statuses::{Exit, Trouble, exit_of_case};
 use game_case::Case;
+use game_rows::{Numbers, renumber};
+use gcg_numbers::push_with_numbers;
 use lex_check::Checked;
 use name_texts::Encoding;
 use record_repairs::Repair;
 use ref_tiles::Rules;
-use repair_answers::{Choice, RepairAnswer, answer_repairs, choice_of};
+use repair_answers::{Choice, Faulty, RepairAnswer, answer_repairs, choice_of};
 use repair_lines::{push_choice, push_repairs};
 use repaired_sheets::{can_be_written, repaired_text};
 use std::alloc::{AllocError, Global};
 use std::rt::Runtime;
 
 /// Reports what repairs the record of a case, by the rules, the word list and the lexicon, in at most `number` lines: writes it to standard output, and the
-/// repaired sheet to the output `out`, if one is named and one repair is to be chosen. If that is standard output, the rest goes to standard error.
+/// repaired sheet to the output `out`, if one is named and one repair is to be chosen, or that only its numbers are corrected. If that is standard output,
+/// the rest goes to standard error.
 pub fn tell_repairs<'a, R: Runtime + AllocGlobal>(
     rt: &R,
     rules: &Rules,
@@ -30,6 +33,9 @@ pub fn tell_repairs<'a, R: Runtime + AllocGlobal>(
 {
     if has_no_event(case) {
         write_beside(rt, out, NO_GAME)?;
+        if out.is_some() {
+            write_beside(rt, out, b"not written: there is nothing to repair\n")?;
+        }
         return Ok(exit_of_case(case, None));
     }
     let Ok(answer) = answer_repairs(rt.alloc(), rules, pair, case, number) else {
@@ -75,20 +81,49 @@ fn sheet_with(alloc: Global, case: &Case, repair: &Repair) -> Result<Option<Vec<
     Ok(Some(text))
 }
 
-/// Writes the sheet of a case with the repair that is to be chosen to the output `out`, which it opens once the text is made.
+/// The text of the sheet of a case with these scores and totals.
+fn sheet_with_numbers(
+    alloc: Global,
+    case: &mut Case,
+    right: &[Numbers],
+) -> Result<Option<Vec<u8>>, AllocError> {
+    let Ok(entry) = &mut case.read else {
+        return Ok(None);
+    };
+    renumber(&mut entry.record.events, right);
+    let mut text = Vec::new(alloc);
+    push_with_numbers(
+        &mut text,
+        case.text.as_slice(),
+        entry.record.events.as_slice(),
+    )?;
+    Ok(Some(text))
+}
+
+/// The text of the sheet that is to be written; `None` if there is none.
+fn chosen_sheet(
+    alloc: Global,
+    case: &mut Case,
+    faulty: &Faulty,
+) -> Result<Option<Vec<u8>>, AllocError> {
+    match (choice_of(faulty), &faulty.alone) {
+        (Choice::Clear(repair), _) => sheet_with(alloc, case, repair),
+        (Choice::Numbers, Some(alone)) => sheet_with_numbers(alloc, case, alone.right.as_slice()),
+        _ => Ok(None),
+    }
+}
+
+/// Writes the sheet that is to be chosen to the output `out`, which it opens once the text is made.
 fn keep<'a, R: Runtime + AllocGlobal>(
     rt: &R,
     out: &'a str,
-    case: &Case,
+    case: &mut Case,
     answer: &RepairAnswer,
 ) -> Result<(), Trouble<'a>> {
     let Some(faulty) = &answer.faulty else {
         return Ok(());
     };
-    let Choice::Clear(repair) = choice_of(faulty) else {
-        return Ok(());
-    };
-    match sheet_with(rt.alloc(), case, repair) {
+    match chosen_sheet(rt.alloc(), case, faulty) {
         Ok(Some(text)) => write_out(rt, out, text.as_slice()),
         Ok(None) => Ok(()),
         Err(_) => Err(Trouble::NoMemory),

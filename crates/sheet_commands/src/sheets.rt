@@ -18,8 +18,8 @@ use annotations::SheetToAnnotate;
 use call_stages::{Question, RunFault, Verdict, ask};
 use command_files::{
     Digests, GivenFiles, RulesFile, SheetFile, Told, UsedOutput, Words, advise_bad_record,
-    advise_no_game, digests_of, given_up, is_record, open_inputs, open_sheet, refuse, tell_others,
-    used_source,
+    advise_no_game, advise_unread, digests_of, given_up, is_record, open_inputs, open_sheet,
+    refuse, tell_others, used_source,
 };
 use command_line::{CaseTask, GameFiles, PROGRAM, SheetTask};
 use devices::{FromRead, Input};
@@ -216,6 +216,7 @@ pub fn answer_sheet<'a, R: Runtime + AllocGlobal>(
             let exit = refuse(rt, task.out(), &decision, &inputs.known(files.pair))?;
             if decision.verdict == Verdict::BadRecord {
                 advise_bad_record(rt, files.game, game.inner().front());
+                advise_unread(rt, files.game, game.inner().front());
             }
             Ok(exit)
         }
@@ -228,7 +229,8 @@ pub fn answer_sheet<'a, R: Runtime + AllocGlobal>(
     }
 }
 
-/// If a sheet is not a game, says why, in addition to the report on it. `explain` itself says what is wrong with a bad record.
+/// If a sheet is not a game, says why, in addition to the report on it; `explain` itself says what is wrong with a bad record. Says which lines are not
+/// read although they look like events.
 fn advise<R: Runtime + AllocGlobal>(
     rt: &R,
     name: &str,
@@ -236,12 +238,12 @@ fn advise<R: Runtime + AllocGlobal>(
     exit: Exit,
     game: &Front,
 ) {
-    if exit != Exit::BadInput {
-        return;
+    if exit == Exit::BadInput {
+        if is_record(rt.alloc(), game) {
+            advise_no_game(rt, name, game);
+        } else if !matches!(task, SheetTask::Case(CaseTask::Explain(_))) {
+            advise_bad_record(rt, name, game);
+        }
     }
-    if is_record(rt.alloc(), game) {
-        advise_no_game(rt, name, game);
-    } else if !matches!(task, SheetTask::Case(CaseTask::Explain(_))) {
-        advise_bad_record(rt, name, game);
-    }
+    advise_unread(rt, name, game);
 }

@@ -1,8 +1,8 @@
 //! Audits as objects.
 
 use answer_json::{
-    FaultObject, VerdictFields, kind_name, number_of, play_fields, push_object, text_of,
-    text_unless_empty, verdict_fields,
+    FaultObject, UnreadObject, VerdictFields, kind_name, number_of, play_fields, push_object,
+    text_of, text_unless_empty, unread_objects, verdict_fields,
 };
 use audit_lines::{AuditAnswer, ToldNumber};
 use call_stages::Verdict;
@@ -10,6 +10,7 @@ use game_case::Finding;
 use gcg_read::{Event, EventKind, Player, Record, Seat};
 use serde::Serialize;
 use std::alloc::{AllocError, Global};
+use unread_lines::UnreadLine;
 
 /// A player.
 #[derive(Drop, Serialize)]
@@ -43,6 +44,7 @@ struct AuditObject {
     ending: Option<&'static str>,
     players: Vec<PlayerObject>,
     wrong: Vec<WrongObject>,
+    unread_lines: Vec<UnreadObject>,
 }
 
 /// What is found of the corrected record.
@@ -194,11 +196,12 @@ fn wrong_objects(alloc: Global, answer: &AuditAnswer) -> Result<Vec<WrongObject>
     Ok(objects)
 }
 
-/// Appends an audit: the verdict of the corrected record, the players, and each number that is wrong.
+/// Appends an audit: the verdict of the corrected record, the players, each number that is wrong, and the lines that are not read.
 pub fn push_audit_answer(
     alloc: Global,
     text: &mut Vec<u8>,
     answer: &AuditAnswer,
+    unread: &[UnreadLine],
 ) -> Result<(), AllocError> {
     let fields = finding_fields(alloc, &answer.audit.entry.finding)?;
     let object = AuditObject {
@@ -208,6 +211,7 @@ pub fn push_audit_answer(
         ending: fields.ending,
         players: player_objects(alloc, &answer.audit.entry.record)?,
         wrong: wrong_objects(alloc, answer)?,
+        unread_lines: unread_objects(alloc, unread)?,
     };
     push_object(alloc, text, &object)
 }

@@ -1,12 +1,16 @@
 //! The board of a record as an object.
 
-use answer_json::{FaultObject, push_object, push_verdict, rack_text, text_of, text_unless_empty};
+use answer_json::{
+    FaultObject, UnreadObject, push_object, push_verdict, rack_text, text_of, text_unless_empty,
+    unread_objects,
+};
 use call_stages::Verdict;
 use game_answers::{RowMarks, ShownBoard};
 use gcg_read::Player;
 use ref_tiles::{KINDS, Kind};
 use serde::Serialize;
 use std::alloc::{AllocError, Global};
+use unread_lines::UnreadLine;
 
 /// A player, with the last total that is written.
 #[derive(Drop, Serialize)]
@@ -41,6 +45,7 @@ struct BoardObject {
     players: Vec<PlayerObject>,
     rack: Option<String>,
     off_board: TilesObject,
+    unread_lines: Vec<UnreadObject>,
 }
 
 /// The rows of a board as text.
@@ -93,7 +98,12 @@ fn laying_fault(board: &ShownBoard) -> Option<FaultObject> {
 }
 
 /// Appends a board: the fault is that of the play that cannot be laid, and the line that of its event.
-fn push_board(alloc: Global, text: &mut Vec<u8>, board: &ShownBoard) -> Result<(), AllocError> {
+fn push_board(
+    alloc: Global,
+    text: &mut Vec<u8>,
+    board: &ShownBoard,
+    unread: &[UnreadLine],
+) -> Result<(), AllocError> {
     let fault = laying_fault(board);
     let object = BoardObject {
         verdict: "ok",
@@ -107,18 +117,20 @@ fn push_board(alloc: Global, text: &mut Vec<u8>, board: &ShownBoard) -> Result<(
             number: board.off_in_all,
             kinds: kind_objects(alloc, board.off.as_slice())?,
         },
+        unread_lines: unread_objects(alloc, unread)?,
     };
     push_object(alloc, text, &object)
 }
 
-/// Appends the board of a record, or that there is no event on the line.
+/// Appends the board of a record with the lines that are not read, or that there is no event on the line.
 pub fn push_shown_board(
     alloc: Global,
     text: &mut Vec<u8>,
     shown: &Option<ShownBoard>,
+    unread: &[UnreadLine],
 ) -> Result<(), AllocError> {
     match shown {
-        Some(board) => push_board(alloc, text, board),
+        Some(board) => push_board(alloc, text, board, unread),
         None => push_verdict(alloc, text, &Verdict::BadLine),
     }
 }

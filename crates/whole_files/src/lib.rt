@@ -4,5 +4,5 @@
 mod names;
 mod outputs;
 
-pub use names::is_same_file;
+pub use names::{FileNumbers, file_numbers, is_same_file};
 pub use outputs::OutputFile;

@@ -11,13 +11,30 @@ use std::rt::Files;
 /// How many links the system follows from one name.
 const MOST_LINKS: u32 = 40;
 
+/// The numbers by which the system knows a file: all names of a file have the same.
+#[derive(Clone, Copy, Debug, PartialEq, Eq, PartialOrd, Ord)]
+pub struct FileNumbers {
+    device: u64,
+    file: u64,
+}
+
+/// The numbers of the file to which a name leads once links are followed. None if it leads to no file, and none for a device or a pipe, since
+/// nothing is lost when these are written.
+pub fn file_numbers<R: Files>(rt: &R, name: &str) -> Option<FileNumbers> {
+    match fs::metadata(rt, name) {
+        Ok(found) if found.is_file() => Some(FileNumbers {
+            device: found.dev(),
+            file: found.ino(),
+        }),
+        _ => None,
+    }
+}
+
 /// Whether two names lead to the same file once links are followed. A name that leads to no file is the same as no other, and so is that
-/// of a device or a pipe, since nothing is lost when these are written.
+/// of a device or a pipe.
 pub fn is_same_file<R: Files>(rt: &R, one: &str, other: &str) -> bool {
-    match (fs::metadata(rt, one), fs::metadata(rt, other)) {
-        (Ok(one), Ok(other)) => {
-            one.is_file() && other.is_file() && one.dev() == other.dev() && one.ino() == other.ino()
-        }
+    match (file_numbers(rt, one), file_numbers(rt, other)) {
+        (Some(one), Some(other)) => one == other,
         _ => false,
     }
 }

@@ -46,23 +46,23 @@ fn lines_without_an_entry(rt: HostRuntime) {
     let rows: [(Fields<'_>, &str, &str); 4] = [
         (
             Fields::unread("a", Unread::CannotOpen),
-            "a\tunread\t-\t-\tcannot open\t-\t-\t-\t-\t-\t-\n",
-            "{\"name\":\"a\",\"verdict\":\"unread\",\"ending\":null,\"line\":null,\"fault\":\"cannot open\",\"events\":null,\"player1\":null,\"total1\":null,\"player2\":null,\"total2\":null,\"unlisted\":null,\"fault_name\":null,\"expected\":null}\n",
+            "a\tunread\t-\t-\tcannot open\t-\t-\t-\t-\t-\t-\t-\n",
+            "{\"name\":\"a\",\"verdict\":\"unread\",\"ending\":null,\"line\":null,\"fault\":\"cannot open\",\"events\":null,\"player1\":null,\"total1\":null,\"player2\":null,\"total2\":null,\"unlisted\":null,\"fault_name\":null,\"expected\":null,\"unread_lines\":null}\n",
         ),
         (
             Fields::unread("a", Unread::IsFolder),
-            "a\tunread\t-\t-\tis a folder\t-\t-\t-\t-\t-\t-\n",
-            "{\"name\":\"a\",\"verdict\":\"unread\",\"ending\":null,\"line\":null,\"fault\":\"is a folder\",\"events\":null,\"player1\":null,\"total1\":null,\"player2\":null,\"total2\":null,\"unlisted\":null,\"fault_name\":null,\"expected\":null}\n",
+            "a\tunread\t-\t-\tis a folder\t-\t-\t-\t-\t-\t-\t-\n",
+            "{\"name\":\"a\",\"verdict\":\"unread\",\"ending\":null,\"line\":null,\"fault\":\"is a folder\",\"events\":null,\"player1\":null,\"total1\":null,\"player2\":null,\"total2\":null,\"unlisted\":null,\"fault_name\":null,\"expected\":null,\"unread_lines\":null}\n",
         ),
         (
             Fields::unread("a", Unread::ReadFailed),
-            "a\tunread\t-\t-\tread failed\t-\t-\t-\t-\t-\t-\n",
-            "{\"name\":\"a\",\"verdict\":\"unread\",\"ending\":null,\"line\":null,\"fault\":\"read failed\",\"events\":null,\"player1\":null,\"total1\":null,\"player2\":null,\"total2\":null,\"unlisted\":null,\"fault_name\":null,\"expected\":null}\n",
+            "a\tunread\t-\t-\tread failed\t-\t-\t-\t-\t-\t-\t-\n",
+            "{\"name\":\"a\",\"verdict\":\"unread\",\"ending\":null,\"line\":null,\"fault\":\"read failed\",\"events\":null,\"player1\":null,\"total1\":null,\"player2\":null,\"total2\":null,\"unlisted\":null,\"fault_name\":null,\"expected\":null,\"unread_lines\":null}\n",
         ),
         (
             Fields::bad_record("a\t\"", &why),
-            "a\\t\"\tbad record\t-\t-\tTooLong\t-\t-\t-\t-\t-\t-\n",
-            "{\"name\":\"a\\t\\\"\",\"verdict\":\"bad record\",\"ending\":null,\"line\":null,\"fault\":\"TooLong\",\"events\":null,\"player1\":null,\"total1\":null,\"player2\":null,\"total2\":null,\"unlisted\":null,\"fault_name\":\"TooLong\",\"expected\":null}\n",
+            "a\\t\"\tbad record\t-\t-\tTooLong\t-\t-\t-\t-\t-\t-\t-\n",
+            "{\"name\":\"a\\t\\\"\",\"verdict\":\"bad record\",\"ending\":null,\"line\":null,\"fault\":\"TooLong\",\"events\":null,\"player1\":null,\"total1\":null,\"player2\":null,\"total2\":null,\"unlisted\":null,\"fault_name\":\"TooLong\",\"expected\":null,\"unread_lines\":null}\n",
         ),
     ];
     for (fields, tabs, object) in rows {
@@ -77,12 +77,12 @@ const FINDINGS: [(Finding, Option<usize>, &str); 5] = [
     (
         Finding::Legal { complete: true },
         Some(0),
-        "a\tlegal\tcomplete\t-\t-\t0\t-\t-\t-\t-\t0\n",
+        "a\tlegal\tcomplete\t-\t-\t0\t-\t-\t-\t-\t0\t3\n",
     ),
     (
         Finding::Legal { complete: false },
         Some(2),
-        "a\tlegal\tunfinished\t-\t-\t0\t-\t-\t-\t-\t2\n",
+        "a\tlegal\tunfinished\t-\t-\t0\t-\t-\t-\t-\t2\t3\n",
     ),
     (
         Finding::Illegal {
@@ -90,17 +90,17 @@ const FINDINGS: [(Finding, Option<usize>, &str); 5] = [
             fault: GameFault::Rule(RuleFault::WrongScore(16)),
         },
         None,
-        "a\tillegal\t-\t7\tWrongScore 16\t0\t-\t-\t-\t-\t-\n",
+        "a\tillegal\t-\t7\tWrongScore 16\t0\t-\t-\t-\t-\t-\t3\n",
     ),
     (
         Finding::Unsettled,
         Some(1),
-        "a\tunsettled\t-\t-\t-\t0\t-\t-\t-\t-\t1\n",
+        "a\tunsettled\t-\t-\t-\t0\t-\t-\t-\t-\t1\t3\n",
     ),
     (
         Finding::NoGame,
         Some(0),
-        "a\tno game\t-\t-\t-\t0\t-\t-\t-\t-\t0\n",
+        "a\tno game\t-\t-\t-\t0\t-\t-\t-\t-\t0\t3\n",
     ),
 ];
 
@@ -112,7 +112,7 @@ fn lines_of_findings(rt: HostRuntime) {
             finding,
             unlisted,
         };
-        let fields = Fields::of_entry(rt.alloc(), "a", &entry, Encoding::Utf8).expect(
+        let fields = Fields::of_entry(rt.alloc(), "a", &entry, Encoding::Utf8, 3).expect(
             &rt, "fields",
         );
         let told = lines_of(&rt, rt.alloc(), &fields);
@@ -122,7 +122,16 @@ fn lines_of_findings(rt: HostRuntime) {
 
 #[test]
 fn lines_that_are_read(rt: HostRuntime) {
-    let rows: [(&str, bool); 12] = [
+    let rows: [(&str, bool); 15] = [
+        ("a\tlegal\tcomplete\t-\t-\t0\t-\t-\t-\t-\t0\t3", true),
+        (
+            "a\tlegal\tcomplete\t-\t-\t0\tA\t-7\t-\t-\t0\ta.html\t3",
+            true,
+        ),
+        (
+            "a\tlegal\tcomplete\t-\t-\t0\t-\t-\t-\t-\t0\ta.html\t-\t-\t3",
+            true,
+        ),
         ("a\tlegal\tcomplete\t-\t-\t0\t-\t-\t-\t-\t0", true),
         ("a\tlegal\tcomplete\t-\t-\t0\tA\t-7\t-\t-\t0\ta.html", true),
         ("", false),
@@ -136,7 +145,7 @@ fn lines_that_are_read(rt: HostRuntime) {
             true,
         ),
         (
-            "a\tlegal\tcomplete\t-\t-\t0\t-\t-\t-\t-\t0\ta\tb\tc\td",
+            "a\tlegal\tcomplete\t-\t-\t0\t-\t-\t-\t-\t0\ta\tb\tc\td\te",
             false,
         ),
         ("{}", false),

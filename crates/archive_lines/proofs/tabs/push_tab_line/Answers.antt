@@ -1,4 +1,4 @@
-use Rattle.archive_lines.specs.Tabs.{verdict_told, record_told, options_told, tab_line}
+use Rattle.archive_lines.specs.Tabs.{verdict_told, record_told, rest_told, tab_line}
 use Rattle.archive_lines.proofs.Joined.{line_is}
 use Rattle.archive_lines.proofs.tabs.push_tab_line.Goals as goal
 
@@ -8,10 +8,10 @@ returns c =
     let f = c.args.fields.now in
     rw (
       c.in_ok-push.ensures.items,
-      c.in_ok-push_options.ensures,
+      c.in_ok-push_rest.ensures,
       c.in_ok-push_record.ensures,
       c.in_ok-push_verdict.ensures,
       c.in_ok-push_escaped.ensures,
       c.as_bytes.ensures.value,
     )
-    (line_is c.args.line.now.items f.name.now (verdict_told f) (record_told f) (options_told f.page f.likely))
+    (line_is c.args.line.now.items f.name.now (verdict_told f) (record_told f) (rest_told f.page f.likely f.unread_lines))

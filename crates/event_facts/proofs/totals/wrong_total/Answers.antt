@@ -2,7 +2,8 @@ use Rattle.std.proofs.lemmas.Int.{ints}
 use Rattle.std.proofs.Common.{rules, w32, to_z-of_z, refl, ◌∙◌}
 use Rattle.game_turns.specs.Machines.{state_of}
 use Rattle.game_turns.specs.Seats.{side_of}
-use Rattle.event_facts.proofs.Numbers.{total_told, sum_shown}
+use Rattle.event_facts.proofs.Numbers.{total_told, sum_shown, unlike}
+use Rattle.event_facts.proofs.Because.{total_differs}
 use Rattle.event_facts.proofs.totals.wrong_total.Goals as goal
 
 pub returns : goal.returns
@@ -18,4 +19,6 @@ returns c =
       sum_shown c.args.right (side_of s.sides e.player).total e.score _ _ _ (total_told c.args.scene.now.rules.now c.args.scene.now.list.now s e c.args.right c.requires.fails)
           (to_z-of_z c.ranges.right) (had ∙ c.total.ensures) (score ∙ c.value.ensures.value),
       written ∙ c.value-2.ensures.value,
+      unlike c.args.right _ e.total _ (total_differs c.args.scene.now.rules.now c.args.scene.now.list.now s e c.args.right c.requires.fails) (to_z-of_z c.ranges.right)
+          (written ∙ c.value-2.ensures.value),
     )

@@ -3,7 +3,7 @@ use Rattle.gcg_read.specs.declared.events.Event.{Event}
 use Rattle.gcg_read.specs.declared.records.Record.{Record}
 use Rattle.game_turns.specs.Machines.{state_of}
 use Rattle.game_turns.specs.Passing.{rules_in, record_in}
-use Rattle.event_facts.proofs.WholeLaws.{read_there, turns_more, hidden_more}
+use Rattle.event_facts.proofs.WholeLaws.{read_there, turns_more, hidden_more, parts_more}
 use Rattle.event_facts.proofs.wholes.turn_lines.Goals as goal
 
 pub loop-place-preserved : goal.loop-place-preserved
@@ -20,4 +20,6 @@ loop-place-preserved c =
           c.in_ok-take.ensures.turns;
       hidden = hidden_more (rules_in passed) (record_in passed).events place e (state_of c.loop-place.machine) _ _ there c.loop-place.invariant.state c.loop-place.invariant.hidden
           c.in_ok-take.ensures.hidden;
+      parts = parts_more (rules_in passed) (record_in passed).events place e (state_of c.loop-place.machine) _ _ there c.loop-place.invariant.state c.loop-place.invariant.parts
+          c.in_ok-take.ensures.parts;
     }

@@ -8,6 +8,6 @@ pub returns-clause-same : goal.returns-clause-same
 returns-clause-same c =
     let written = c.args.game.now.events in
     let right = c.with_right_numbers.new.game.events in
-    same_again c.args.game.now c.with_right_numbers.new.game.players c.renumber.new.events c.in_ok-remains.ensures.others.players
+    same_again c.args.game.now c.with_right_numbers.new.game.players c.renumber.new.events c.in_ok-alone.ensures.others.players
     (c.renumber.ensures ∙ ap (renumbered right) (c.as_slice-2.ensures.value ∙ c.in_ok-written.ensures ∙ ap (map numbers_in) c.as_slice.ensures)
-    ∙ back_again written right c.in_ok-remains.ensures.others.events)
+    ∙ back_again written right c.in_ok-alone.ensures.others.events)

@@ -1,4 +1,4 @@
-use Rattle.std.proofs.Common.{List, ◌≡◌, ◌∙◌, refl, ap, subst, length, IfSome}
+use Rattle.std.proofs.Common.{List, ◌∙◌, refl, ap, subst, length}
 use Rattle.gcg_read.specs.declared.events.Event.{Event}
 use Rattle.gcg_read.specs.declared.events.Seat.TheVariants.{First, Second}
 use Rattle.lex_check.specs.Pairs.{list_in}
@@ -7,7 +7,8 @@ use Rattle.game_rows.specs.Walks.{IsWalk}
 use Rattle.score_sheets.specs.Boards.{ArePictures, IsShownAt}
 use Rattle.score_sheets.specs.Positions.{ArePositions}
 use Rattle.score_sheets.specs.Rows.{AreSheetRows}
-use Rattle.score_sheets.specs.Sums.{gains_to, IsStanding}
+use Rattle.score_sheets.specs.Gains.{gains_to, IsGain}
+use Rattle.score_sheets.specs.Sums.{best_of, IsStanding}
 use Rattle.score_sheets.proofs.sheets.score_sheet.Goals as goal
 
 pub returns : goal.returns
@@ -28,8 +29,8 @@ returns c =
       standing = subst (λ t. IsStanding (last_total First c.args.game.now.events) t c.standing_of-standing.result) second
           (subst (λ t. IsStanding t c.last_total-second_total.result c.standing_of-standing.result) first c.standing_of-standing.ensures);
       rows = by right is;
-      first_gains = subst (λ (es : List Event). IfSome c.gains_in-first_gains.result (λ gains. gains ≡ gains_to First es rows (length es))) same c.gains_in-first_gains.ensures;
-      second_gains = subst (λ (es : List Event). IfSome c.gains_in-second_gains.result (λ gains. gains ≡ gains_to Second es rows (length es))) same c.gains_in-second_gains.ensures;
+      first_gains = subst (λ (es : List Event). IsGain (gains_to First es (best_of rows) (length es)) c.gains_in-first_gains.result) same c.gains_in-first_gains.ensures;
+      second_gains = subst (λ (es : List Event). IsGain (gains_to Second es (best_of rows) (length es)) c.gains_in-second_gains.result) same c.gains_in-second_gains.ensures;
       boards = subst (λ (es : List Event). ArePictures es c.in_ok-boards.boards.items) same c.in_ok-boards.ensures;
       positions = subst (λ (es : List Event). ArePositions rules es c.in_ok-boards.boards.items (length c.in_ok-boards.boards.items) c.in_ok-positions.positions.items) same c.in_ok-positions.ensures;
       shown = subst (λ (es : List Event). IsShownAt es c.args.place c.shown_at.result) same c.shown_at.ensures;

@@ -1,7 +1,7 @@
 use Rattle.std.proofs.Common.{subst}
 use Rattle.game_deal.specs.Racks.{AreFound}
 use Rattle.game_deal.proofs.Outcomes.{none_by}
-use Rattle.repair_answers.proofs.unchanged.may_be_game.Goals as goal
+use Rattle.repair_answers.proofs.unchanged.is_dealt.Goals as goal
 
 pub returns-in-NoDeal : goal.returns-in-NoDeal
 returns-in-NoDeal c =

@@ -1,0 +1,18 @@
+use Rattle.std.proofs.Common.{◌≡◌, rules, Some, refl}
+use Rattle.game_turns.specs.Machines.{state_of}
+use Rattle.game_facts.specs.Texts.{new_tiles}
+use Rattle.event_facts.proofs.Plays.{of_play}
+use Rattle.event_facts.proofs.Because.{more_than_held}
+use Rattle.event_facts.proofs.tiles.too_many_used.Goals as goal
+
+pub returns : goal.returns
+returns c =
+    let scene = c.args.scene.now in
+    let s = state_of scene.machine.now in
+    let e = scene.event.now in
+    let many : new_tiles s.board c.in-Play.dir c.in-Play.at c.in-Play.word ≡ Some c.in_ok-used.used = search rules in (
+      refl,
+      c.rack_size.ensures,
+      of_play e.kind c.in-Play.at c.in-Play.dir c.in-Play.word _ c.in-Play.is
+          (many, more_than_held scene.rules.now scene.list.now s e c.in-Play.at c.in-Play.dir c.in-Play.word c.in_ok-used.used c.rack_size.result c.requires.fails c.in-Play.is many c.rack_size.ensures),
+    )

@@ -1,0 +1,58 @@
+-- A bonus or a penalty that would explain wrong numbers.
+use Rattle.std.specs.Prelude.{◌≡◌, ℕ, nat_lt, ◌&&◌, Bool, true, false, List, [], ◌∷◌, Option, Some, None, if◌then◌else◌}
+use Rattle.ref_tiles.specs.declared.rulebook.Rules.{Rules}
+use Rattle.gcg_read.specs.declared.events.Event.{Event}
+use Rattle.game_rows.specs.declared.walking.Walk.{Walk}
+use Rattle.game_rows.specs.Walks.{IsWalkOf}
+use Rattle.play_changes.specs.PlayChanges.{ArePlayChanges}
+use Rattle.record_changes.specs.declared.slips.Change.{Change}
+use Rattle.record_changes.specs.declared.slips.Slip.{Slip}
+use Rattle.record_changes.specs.declared.slips.Slip.TheVariants as slip
+use Rattle.record_changes.specs.declared.slips.MissingLine.TheVariants as line
+use Rattle.record_changes.specs.declared.slips.MissingLine.{MissingLine}
+use Rattle.record_repairs.specs.Repairs.{AreFirstRepairs}
+use Rattle.record_repairs.specs.declared.listed.Listed.{Listed}
+use Rattle.record_repairs.specs.declared.repair.Repair.{Repair}
+use Rattle.repair_answers.specs.Alike.{cost_in}
+use Rattle.repair_answers.specs.Answers.{below_of}
+use Rattle.repair_answers.specs.Choices.{alone_cost}
+use Rattle.repair_answers.specs.Unchanged.{IsUnchanged}
+use Rattle.repair_answers.specs.declared.numbers_alone.NumbersAlone.{NumbersAlone}
+
+-- a bonus for a challenge or a penalty for time is missing
+abbrev pub is_missing_amount : MissingLine → Bool
+is_missing_amount (line.Challenge player score several) = true
+is_missing_amount (line.Time player score early) = true
+is_missing_amount other = false
+
+-- the slip is one of a bonus for a challenge or of a penalty for time: it is missing, or it is another amount
+abbrev pub is_of_amount : Slip → Bool
+is_of_amount (slip.Amount right) = true
+is_of_amount (slip.Missing m) = is_missing_amount m
+is_of_amount other = false
+
+-- such a repair costs less than correcting only the numbers
+abbrev pub explains : NumbersAlone → Repair → Bool
+explains alone repair = is_of_amount repair.listed.change.slip && nat_lt (cost_in repair) (alone_cost alone)
+
+-- the first of some repairs, if it is such a one
+abbrev pub IsAmountBy : NumbersAlone → (told : List Repair) → Option Repair → Type 0
+IsAmountBy alone [] amount = amount ≡ None
+IsAmountBy alone (first ∷ rest) amount = amount ≡ (if explains alone first then Some first else None)
+
+abbrev pub IsAmountOf : Option NumbersAlone → (told : List Repair) → Option Repair → Type 0
+IsAmountOf None told amount = amount ≡ None
+IsAmountOf (Some alone) told amount = IsAmountBy alone told amount
+
+-- The first repair of a record, if only numbers are wrong, it is one of a bonus or a penalty, and it costs less than correcting the numbers.
+pub record IsAmount (rules : Rules) (list : List (List ℕ)) (written : List Event) (amount : Option Repair) : Type 0 where
+  pub numbers : Option NumbersAlone
+  pub alone : IsUnchanged rules list written numbers
+  pub walk : Walk
+  pub walked : IsWalkOf rules list written walk
+  pub plays : List Change
+  pub are_plays : ArePlayChanges written walk plays
+  pub told : List Repair
+  pub left : List Listed
+  pub repairs : AreFirstRepairs rules list written plays (below_of numbers) 1 told left
+  pub chosen : IsAmountOf numbers told amount

@@ -1,0 +1,69 @@
+//! A bonus or a penalty that would explain wrong numbers.
+ghost use Rattle.std.specs.Prelude.{◌≡◌, IfOk, OnOk};
+ghost use Rattle.lex_check.specs.Pairs.{list_in};
+ghost use Rattle.repair_answers.specs.Amounts.{is_of_amount, explains, IsAmountOf, IsAmount};
+
+use crate::answers::below_of;
+use crate::choices::cost_of;
+use crate::numbers_alone::NumbersAlone;
+use crate::singles::first_repairs;
+use crate::unchanged::unchanged;
+use game_rows::walk_as_written;
+use gcg_read::Record;
+use lex_check::Checked;
+use record_changes::{MissingLine, Slip};
+use record_repairs::{Found, Repair};
+use ref_tiles::Rules;
+use std::alloc::{AllocError, Global};
+
+/// Whether a slip is one of a bonus for a challenge or of a penalty for time: it is missing, or it is another amount.
+fn is_of_amount(slip: &Slip) -> bool
+    ensures { result ≡ is_of_amount slip.now }
+{
+    match slip {
+        Slip::Amount(_) => true,
+        Slip::Missing(MissingLine::Challenge { .. }) => true,
+        Slip::Missing(MissingLine::Time { .. }) => true,
+        _ => false,
+    }
+}
+
+/// Whether a repair is one of a bonus or a penalty, and costs less than correcting only the numbers.
+fn explains(alone: &NumbersAlone, repair: &Repair) -> bool
+    ensures { result ≡ explains alone.now repair.now }
+{
+    is_of_amount(&repair.listed.change.slip) && cost_of(repair) < alone.cost()
+}
+
+/// The first of the repairs that were found, if it is one of a bonus or a penalty, and costs less than correcting only the numbers.
+fn amount_among(alone: &Option<NumbersAlone>, found: Found) -> Option<Repair>
+    ensures { IsAmountOf alone.now found.told.items result }
+{
+    let Some(alone) = alone else {
+        return None;
+    };
+    match found.told.into_iter().next() {
+        Some(first) if explains(alone, &first) => Some(first),
+        _ => None,
+    }
+}
+
+/// The first repair of a record of which only numbers are wrong, if it is one of a bonus or a penalty, and costs less than correcting the numbers: so
+/// a wrong total may not be wrong. Afterwards the record is as it was.
+///
+/// It fails only if memory runs out.
+pub fn amount_repair(
+    alloc: Global,
+    rules: &Rules,
+    pair: &Checked<'_>,
+    game: &mut Record,
+) -> Result<Option<Repair>, AllocError>
+    ensures amount { IfOk result (IsAmount rules.now (list_in pair.now) game.old.events) }
+    ensures same { OnOk result (game.new ≡ game.old) }
+{
+    let alone = unchanged(alloc, rules, pair.list(), game)?;
+    let below = below_of(&alone);
+    let walk = walk_as_written(alloc, rules, pair.list(), &mut game.events)?;
+    let singles = first_repairs(alloc, rules, pair, &walk, &mut game.events, below, 1)?;
+    Ok(amount_among(&alone, singles.found))
+}

@@ -1,0 +1,32 @@
+//! A record of which only the numbers are wrong.
+ghost use Rattle.std.specs.Prelude.{◌≡◌};
+ghost use Rattle.repair_answers.specs.Choices.{alone_cost};
+
+use game_rows::Numbers;
+use record_repairs::Remains;
+
+/// What a wrong number costs.
+pub(crate) const NUMBER: u128 = 5;
+
+/// What a word costs that is not in the list.
+const WORD: u128 = 3;
+
+/// What is wrong with a record of which only the numbers are.
+#[derive(Drop)]
+pub struct NumbersAlone {
+    /// Its wrong scores and totals, and its words that are not in the list.
+    pub remains: Remains,
+    /// The right score and total of each event.
+    pub right: Vec<Numbers>,
+    /// Whether some deal yields its racks. If not, neither a deal was found nor a proof that there is none.
+    pub is_game: bool,
+}
+
+impl NumbersAlone {
+    /// What it costs to correct the numbers: 5 for each, and 3 for each word that is not in the list.
+    pub(crate) fn cost(&self) -> u128
+        ensures { result ≡ alone_cost self.now }
+    {
+        NUMBER * self.remains.wrong.len() as u128 + WORD * self.remains.unlisted.len() as u128
+    }
+}
