@@ -7,6 +7,7 @@ from collections import Counter
 from dataclasses import replace
 from pathlib import Path
 
+from answers import lead_of
 from lexicons import build
 from rules import ENGLISH
 from rules_texts import text_of
@@ -1195,7 +1196,7 @@ def rules_with(tiles, exchange_min):
 
 
 def explain(run, status, words, record, text, line=None, rules=None, begins=False):
-    """One row: `explain` prints the text, and then at most the board; or it begins with the text."""
+    """One row: `explain` prints the text, and then at most the board and who is ahead by the right numbers; or it begins with the text."""
     folder, listed = Path(run.folder), words.split()
     (folder / "explain-list").write_text(words)
     (folder / "explain-list.gad").write_bytes(build(set(listed)))
@@ -1209,7 +1210,8 @@ def explain(run, status, words, record, text, line=None, rules=None, begins=Fals
     ran = subprocess.run(told, cwd=folder, capture_output=True, check=False, timeout=run.patience)
     said = ran.stdout.decode()
     rest = said.removeprefix(text)
-    good = said.startswith(text) and (begins or not rest or rest.startswith("board before line "))
+    leads = lead_of(words.encode(), (folder / "explain-list.gad").read_bytes(), record.encode(), rules) if line is None else [b""]
+    good = said.startswith(text) and (begins or not rest or rest.startswith("board before line ") or rest.encode() in leads)
     run.expect(f"explain of {record[:200]!r}, status {ran.returncode} for {status}:\n{said}", good and ran.returncode == status)
 
 

@@ -126,6 +126,7 @@ BAD = {  # what is said of the first fault of a file that is no record
 SETTLE = "referee: unsettled: `judge --settle` searches for a deal that yields the racks"
 FOURTEEN = with_counts(lambda kind, count: "AADEEINORRSTTW".count(kind))
 WORD = ">A: DORWAAE 8E WORD +16 16\n"
+GOING_ON = ">B: - +0 0\n>A: - +0 16\n"
 MISREAD = ">A: AADEORW 8E XORD +16 16\n"
 PASSES = "".join(f">{'AB'[k % 2]}: - +0 0\n" for k in range(6))
 LOST_RACKS = ">A: AEINRST (AEINRST) -7 -7\n>B: AEINRST (AEINRST) -7 -7\n"
@@ -241,6 +242,13 @@ TEXTS = {
     "caf\u00e9": WORD,
     "score-and-sum": ">A: DORWAAE 8E WORD +18 19\n",
     "sum-then-turn": ">A: DORWAAE 8E WORD +16 15\n>B: (time) +0 4\n",
+    "score-alone": WORD.replace("+16", "+18") + GOING_ON,
+    "total-alone": WORD.replace("16\n", "17\n") + GOING_ON,
+    "total-carried": WORD.replace("16\n", "17\n") + GOING_ON.replace("16\n", "17\n"),
+    "two-totals": WORD.replace("16\n", "17\n") + GOING_ON.replace("16\n", "18\n"),
+    "one-player": ">A: (time) -5 -5\n",
+    "bonus-missing": WORD + GOING_ON.replace("16\n", "21\n") + ">B: - +0 0\n",
+    "bonus-of-10": WORD + ">A: (challenge) +10 21\n" + GOING_ON.replace("16\n", "21\n"),
     "unread": WORD + "A: (time) -5 11\n",
     "unread-kinds": WORD + "".join(f"{line}\n" for line in UNREAD_LINES),
     "unread-many": WORD + 12 * "A: - +0 16\n",
@@ -728,6 +736,7 @@ def topped_before(run):
     for number in ("12", "13", "100"):
         by_at(["--number", number, "nothing AT?"], 0, twelve)
     by_at(["--number", "10", "nothing ?A"], 0, "8G At 2\n8H At 2\nH7 At 2\nH8 At 2\n")
+    by_at(["--number", "10", "nothing ?a"], 0, "8G At 2\n8H At 2\nH7 At 2\nH8 At 2\n")
     by_at(["--before", "1", "shown-rack"], 0, four)
     by_at(["--before", "1", "--number", "2", "shown-rack"], 0, "8G AT 4\n8H AT 4\n")
     by_at(["--before", "1", "shown-rack Q"], 0, "none\n")
@@ -854,7 +863,7 @@ def skipped(run):
     run.row(["top", "--json", "--skip-others", "people", "it-at.gad", "with-blank", "--before", "9"], 3, refusal("bad line"), error=plain)
     run.row(["check", "people", "it-at.gad"], 3, "bad word list line 2: BadLetter\n")
     run.row(["check", "--skip-others", "people", "nowhere"], 4, error="referee: cannot open nowhere: no such file")
-    for command, out in (("judge", "legal unfinished\n1 A - +0 0 best 8G At 2\n"), ("audit", "legal unfinished\n"), ("explain", f"legal unfinished\n{STANDS}"),
+    for command, out in (("judge", "legal unfinished\n1 A - +0 0 best 8G At 2\n"), ("audit", "legal unfinished\nboth have the same total\n"), ("explain", f"legal unfinished\n{STANDS}"),
                          ("archive", "with-blank\tlegal\tunfinished\t-\t-\t1\tA\t0\t-\t-\t0\t0\n")):
         run.row([command, "--skip-others", "people", "it-at.gad", "with-blank"], 0, None if command == "judge" else out, error=plain)
     run.row(["page", "--skip-others", "people", "it-at.gad", "with-blank", "out"], 0, "legal unfinished\n", error=plain)
@@ -1338,6 +1347,16 @@ def served(run):
         ('{"id":[],"do":"tidy","game":""}', "id is neither a text nor a number"),
     ]:
         run.row(["serve", *pair], 0, f'{ready}{{"id":null,"status":64,"error":"{error}"}}\n', stdin=f"{line}\n")
+    # The letters of a rack may be lower case, as on the command line; no other character is a tile in either case.
+    plays = [{"place": "8G", "direction": "across", "text": "AT", "score": 4}]
+    by_at = ["serve", "at", "at.gad"], 0
+    for rack in ("AT?", "at?", "aT?"):
+        found = {"verdict": "ok", "line": None, "fault": None, "rack": "AT?", "plays": plays}
+        answer = json.dumps({"id": None, "status": 0, "answer": found}, separators=(",", ":"))
+        run.row(*by_at, f"{ready}{answer}\n", stdin=json.dumps({"do": "top", "game": "", "rack": rack, "number": 1}))
+    refused = '{"id":null,"status":3,"answer":{"verdict":"bad rack","line":null,"fault":null}}\n'
+    for rack in ("", "a1", "\u00e4", "a t", "aaaaaaaa"):
+        run.row(*by_at, f"{ready}{refused}", stdin=json.dumps({"do": "top", "game": "", "rack": rack, "line": 1}))
     run.row(["serve", "digit", "word.gad"], 3, '{"verdict":"bad word list","line":2,"fault":{"name":"BadLetter"}}\n', error="", stdin=asked)
     run.row(["serve", "word", "at.gad"], 3, '{"verdict":"bad lexicon","line":null,"fault":{"name":"Extra","path":"A"}}\n', error="", stdin=asked)
     run.row(["serve", "--rules", "nothing", *pair], 3, '{"verdict":"bad rules","line":null,"fault":{"name":"Missing"}}\n', error="", stdin=asked)
@@ -1362,14 +1381,21 @@ def audited(run):
     """`audit`, by the wrong numbers of a sheet and the verdict on its correction, and the record that it writes."""
     run.row(["build", "word", "word.gad"], 0)
     run.row(["build", "word-at-ra", "word-at-ra.gad"], 0)
-    line = WORD.encode()
+    line, passed = WORD.encode(), f"{WORD}{GOING_ON}".encode()
+    lead, by_sheet = "A is ahead by 16\n", "A is ahead by 16; by the sheet A is ahead by %d\n"
     for game, status, out, kept in [
-        ("line", 0, "legal unfinished\n", line),
-        ("line-18", 1, "line 1: score 18, should be 16 (A, 8E WORD)\ntotal of A: 18, should be 16\nlegal unfinished\n", line),
-        ("line-17", 1, "line 1: sum 17, should be 16 (A, 8E WORD)\ntotal of A: 17, should be 16\nlegal unfinished\n", line),
-        ("score-and-sum", 1, "line 1: score 18, should be 16 (A, 8E WORD)\nline 1: sum 19, should be 18 (A, 8E WORD; on the corrected sheet 16)\ntotal of A: 19, should be 16\nlegal unfinished\n", line),
-        ("untidy", 0, "legal unfinished\n", TEXTS["untidy"].encode()),
-        ("by-hand", 1, "line 5: score 10, should be 9 (B, 9G AT)\ntotal of B: 10, should be 9\nlegal unfinished\n", f"{BY_HAND}>B: AT 9G AT +9 9{OTHERS}".encode()),
+        ("line", 0, f"legal unfinished\n{lead}", line),
+        ("line-18", 1, f"line 1: score 18, should be 16 (A, 8E WORD)\ntotal of A: 18, should be 16\nlegal unfinished\n{by_sheet % 18}", line),
+        ("line-17", 1, f"line 1: sum 17, should be 16 (A, 8E WORD)\nlegal unfinished\n{by_sheet % 17}", line),
+        ("score-and-sum", 1, f"line 1: score 18, should be 16 (A, 8E WORD)\nline 1: sum 19, should be 16 (A, 8E WORD)\nlegal unfinished\n{by_sheet % 19}", line),
+        ("score-alone", 1, f"line 1: score 18, should be 16 (A, 8E WORD)\nlegal unfinished\n{lead}", passed),
+        ("total-alone", 1, f"line 1: sum 17, should be 16 (A, 8E WORD)\nlegal unfinished\n{lead}", passed),
+        ("total-carried", 1, f"line 1: sum 17, should be 16 (A, 8E WORD)\ntotal of A: 17, should be 16\nlegal unfinished\n{by_sheet % 17}", passed),
+        ("two-totals", 1, f"line 1: sum 17, should be 16 (A, 8E WORD)\nline 3: sum 18, should be 16 (A, -)\nlegal unfinished\n{by_sheet % 18}", passed),
+        ("one-player", 0, "legal unfinished\nthe other player is ahead by 5\n", TEXTS["one-player"].encode()),
+        ("bonus-of-10", 1, "line 2: sum 21, should be 26 (A, (challenge))\nOr: line 2: a bonus for a challenge, 5, not 10\n  8 of 8 numbers right\nillegal line 2: BadBonus\n", None),
+        ("untidy", 0, f"legal unfinished\n{lead}", TEXTS["untidy"].encode()),
+        ("by-hand", 1, "line 5: score 10, should be 9 (B, 9G AT)\ntotal of B: 10, should be 9\nlegal unfinished\nA is ahead by 7; by the sheet A is ahead by 6\n", f"{BY_HAND}>B: AT 9G AT +9 9{OTHERS}".encode()),
         ("nothing", 3, "no game\n", None),
         ("page", 3, "no game\n", None),
         ("line-8d", 1, "illegal line 1: MissesCentre\n", None),
@@ -1381,7 +1407,12 @@ def audited(run):
         Path(run.folder, "out").write_bytes(b"as it was")
         run.row(["audit", "--corrected", "out", "word", "word.gad", game], status, out, wrote=b"as it was" if kept is None else kept)
         run.row(["audit", "word", "word.gad", game], status, out)
-    run.row(["audit", "word-at-ra", "word-at-ra.gad", "unlisted"], 0, "legal unfinished\n")
+    missing = "line 3: sum 21, should be 16 (A, -)\nOr: before line 2: A gets 5 points for a failed challenge\n  8 of 8 numbers right\nlegal unfinished\n" + by_sheet % 21
+    run.row(["audit", "word", "word.gad", "bonus-missing"], 1, missing)
+    Path(run.folder, "out").write_bytes(b"as it was")
+    held = "not written: first say which it is, the bonus or the penalty after Or: or the wrong number\n"
+    run.row(["audit", "--corrected", "out", "word", "word.gad", "bonus-missing"], 1, missing + held, wrote=b"as it was")
+    run.row(["audit", "word-at-ra", "word-at-ra.gad", "unlisted"], 0, "legal unfinished\nA is ahead by 7\n")
     for words, status, out in [
         (["digit", "word.gad", "line"], 3, "bad word list line 2: BadLetter\n"),
         (["at", "extra.gad", "line"], 3, "bad lexicon: Extra A\n"),
@@ -1390,8 +1421,8 @@ def audited(run):
     ]:
         Path(run.folder, "out").write_bytes(b"as it was")
         run.row(["audit", "--corrected", "out", *words], status, out, wrote=b"as it was")
-    run.row(["audit", "--rules", "two-sets.rules", "at", "at.gad", "blanks"], 0, "legal unfinished\n")
-    run.row(["audit", "word", "word.gad", "-"], 0, "legal unfinished\n", stdin=WORD)
+    run.row(["audit", "--rules", "two-sets.rules", "at", "at.gad", "blanks"], 0, "legal unfinished\nboth have the same total\n")
+    run.row(["audit", "word", "word.gad", "-"], 0, f"legal unfinished\n{lead}", stdin=WORD)
     run.row(["audit", "word", "word.gad", "nowhere"], 4, error="referee: cannot open nowhere: no such file")
     run.row(["audit", "word", "folder", "line"], 4, error="referee: read failed: folder: is a folder")
     run.row(["audit", "--corrected", "no/where", "word", "word.gad", "line"], 4, error="referee: cannot open no/where: no such file")
@@ -1470,6 +1501,7 @@ def repairs_listed(run):
     run.row(["build", "all", "all.gad"], 0)
     numbers_alone(run, at)
     eat = ">A: E 9F E.. +5 21\n"
+    through_sheet(run, at, eat)
     Path(run.folder, "passes").write_text(f"{WORD}{at}>A: - +0 16\n{eat}")
     passes = "illegal line 4: NotYourTurn\nline 3: it should not be there\n  6 of 6 numbers right\n"
     run.row(["repair", "--number", "1", "all", "all.gad", "passes"], 1, passes)
@@ -1491,6 +1523,42 @@ def repairs_listed(run):
         run.row([*told, *words], 64, error=None)
 
 
+def through_sheet(run, at, eat):
+    """`repair` of sheets with a slip that runs through them, and of one with a line that is not read: the slip comes first, and the sheet without it is
+    written. What comes after the slip is compared with the second judge by `compare_repairs`."""
+    word = ">A: AADEORW 8E WORD +16 16\n"
+    right, passes = word + at + eat, word + at + eat + ">B: - +0 9\n>A: - +0 21\n"
+    rows = [  # the sheet, its verdict, the slip, how many numbers are right, and the sheet without it
+        (word + at[1:] + eat, "line 3: NotYourTurn", "line 2: > is missing", 6, right),
+        (word + at.replace(">", " >") + eat, "line 3: NotYourTurn", "line 2: a blank is before its >", 6, right),
+        (word + at.replace(">", "=") + eat, "line 3: NotYourTurn", "line 2: another sign is in place of its >", 6, right),
+        (word.replace("8E", "E8") + at.replace("9G", "G9") + eat.replace("9F", "F9"), "line 1: MissesCentre", "all places have row and column interchanged", 6, right),
+        (word.replace("8E", "9E") + at.replace("9G", "10G") + eat.replace("9F", "10F"), "line 1: MissesCentre", "all places are one row too far down", 6, right),
+        (word.replace("WORD", "word") + at.replace("AT +", "at +") + eat.replace("E..", "e.."), "line 1: WrongScore 0", "all words have small letters and capitals interchanged", 6, right),
+        (word + at + ">B: E 9F E.. +5 21\n>A: - +0 9\n>B: - +0 21\n", "line 3: NotYourTurn", "all lines from line 3 on have the name of the other player", 10, passes),
+    ]
+    for sheet, verdict, slip, numbers, there in rows:
+        Path(run.folder, "slipped").write_text(sheet)
+        Path(run.folder, "out").unlink(missing_ok=True)
+        done = subprocess.run([run.program, "repair", "--repaired", "out", "all", "all.gad", "slipped"], cwd=run.folder, capture_output=True, check=False)
+        told = done.stdout.decode()
+        begins = f"illegal {verdict}\n{slip}\n  {numbers} of {numbers} numbers right\n"
+        ends = "written: the sheet with the first repair\n"
+        run.expect(f"the slip of {sheet}told {told}", done.returncode == 1 and told.startswith(begins) and told.endswith(ends))
+        written = Path(run.folder, "out").read_text() if Path(run.folder, "out").exists() else None
+        run.expect(f"the sheet without the slip of {sheet}written {written}", written == there)
+        said = subprocess.run([run.program, "explain", "all", "all.gad", "slipped"], cwd=run.folder, capture_output=True, check=False).stdout.decode()
+        run.expect(f"the likely slip of {sheet}said {said}", f"\nLikely: {slip}\n  {numbers} of {numbers} numbers right\n" in said)
+        found = json.loads(subprocess.run([run.program, "repair", "--json", "all", "all.gad", "slipped"], cwd=run.folder, capture_output=True, check=False).stdout)
+        first = found["sheet_slips"][0]
+        lines = "".join(line.replace(">: ", ">B: ") + "\n" for line in first["lines"])
+        run.expect(f"the object of the slip of {sheet}has {first}", first["settled"] and lines in there)
+    Path(run.folder, "slipped").write_text(word + at.replace("+9 9", "+9 16") + eat + ">B: - +0 16\n")
+    told = subprocess.run([run.program, "repair", "all", "all.gad", "slipped"], cwd=run.folder, capture_output=True, check=False).stdout.decode()
+    one = "with only the numbers corrected it is a game\n  7 of 8 numbers right\n  line 2: sum 16, should be 9\n"
+    run.expect(f"totals that are wrong by the same from a line on are one wrong number: {told}", one in told)
+
+
 def numbers_alone(run, at):
     """`repair` of a sheet on which only a score is wrong, for which no change of the play makes up: the sheet is written with the right one."""
     Path(run.folder, "scored").write_text(WORD.replace("+16 16", "+18 18") + at)
@@ -1501,31 +1569,32 @@ def compared(run):
     """`compare`, by its statuses."""
     run.row(["build", "word", "word.gad"], 0)
     told = ["compare", "word", "word.gad"]
-    unfinished, done = "legal unfinished\n", "written: the merged record\n"
-    for game, out in (("line", unfinished), ("ends", "legal complete\n")):
+    ahead, done = "legal unfinished\nA is ahead by 16\n", "written: the merged record\n"
+    for game, out in (("line", ahead), ("ends", "legal complete\nboth have the same total\n")):
         run.row([*told, game, game], 0, out)
         run.row([*told, "-", game], 0, out, stdin=Path(run.folder, game).read_text())
     other = WORD.replace("8E", "8D")
     Path(run.folder, "other").write_text(other)
     merged = "#player1 A\n" + WORD.replace("DORWAAE", "AADEORW")
-    first = "line 1 | line 1: 8E WORD +16 16 | 8D WORD +16 16: the first; with the second, line 1 | line 1 is refused: MissesCentre\n" + unfinished
+    first = "line 1 | line 1: 8E WORD +16 16 | 8D WORD +16 16: the first; with the second, line 1 | line 1 is refused: MissesCentre\n" + ahead
     run.row([*told, "line", "other"], 1, first)
     run.row([*told, "--merged", "out", "line", "other"], 1, first + done, wrote=merged.encode())
     run.row([*told, "--merged", "-", "line", "other"], 1, merged, error=first + done.removesuffix("\n"))
     Path(run.folder, "others").write_text(WORD.replace("8E", "8F"))
-    both = "line 1 | line 1: 8E WORD +16 16 | 8F WORD +16 16: both stand\n1 other choice of the lines would stand as well\n" + unfinished
+    both = "line 1 | line 1: 8E WORD +16 16 | 8F WORD +16 16: both stand\n1 other choice of the lines would stand as well\n" + ahead
     run.row([*told, "line", "others"], 1, both)
     Path(run.folder, "out").write_bytes(b"as it was")
     run.row([*told, "--merged", "out", "line", "others"], 1, both + "not written: another choice of the lines would stand as well\n", wrote=b"as it was")
     for name, place in (("left", "8C"), ("above", "7E"), ("aside", "7F")):
         Path(run.folder, name).write_text(WORD.replace("8E", place))
     refused = "{0}\nnone of 2 choices of the lines is known to be a game\nfirst goes furthest: line 1 | line 1 is refused: MissesCentre\n"
-    mended = refused.format("line 1 | line 1: 8D WORD +16 16 | 8C WORD +16 16") + "first is a game with one more change: line 1: WORD at 8E, not at 8D\n" + unfinished
+    mended = refused.format("line 1 | line 1: 8D WORD +16 16 | 8C WORD +16 16") + "first is a game with one more change: line 1: WORD at 8E, not at 8D\n" + ahead
     run.row([*told, "--merged", "out", "other", "left"], 1, mended + done, wrote=merged.encode())
     rival = "another change would make a game as well\n"
-    either = refused.format("line 1 | line 1: 7E WORD +16 16 | 7F WORD +16 16") + f"first is a game with one more change: line 1: WORD at 8E, not at 7E\n{rival}{unfinished}"
+    either = refused.format("line 1 | line 1: 7E WORD +16 16 | 7F WORD +16 16") + f"first is a game with one more change: line 1: WORD at 8E, not at 7E\n{rival}{ahead}"
     Path(run.folder, "out").write_bytes(b"as it was")
     run.row([*told, "--merged", "out", "above", "aside"], 1, f"{either}not written: {rival}", wrote=b"as it was")
+    sheets_of_two(run)
     for words, out in [(["digit", "word.gad", "line", "line"], "bad word list line 2: BadLetter\n"), (["at", "extra.gad", "line", "line"], "bad lexicon: Extra A\n")]:
         run.row(["compare", *words], 3, out)
     for sheets in (["third", "line"], ["line", "third"]):
@@ -1538,6 +1607,42 @@ def compared(run):
     run.row([*told, "line", "nowhere"], 4, error="referee: cannot open nowhere: no such file")
     for words in ([], ["line"], ["line", "line", "line"]):
         run.row([*told, *words], 64, error=None)
+
+
+def sheets_of_two(run):
+    """`compare` of sheets of which each has its own player first, of racks that differ, and of last totals that do."""
+    told = ["compare", "--merged", "out", "word-at-ra", "word-at-ra.gad"]
+    run.row(["build", "word-at-ra", "word-at-ra.gad"], 0)
+    at = ">B: AT 9G AT +9 9\n"
+    ann, ben = "#player1 A Ann Lee\n#player2 B Ben Ray\n", "#player1 B Ben Ray\n#player2 A Ann Lee\n"
+    done = "legal unfinished\nA is ahead by 7\nwritten: the merged record\n"
+    merged = (ann + WORD.replace("DORWAAE", "AADEORW") + at).encode()
+    for name, text in {
+        "ann": ann + WORD + at,
+        "ben": ben + ">A: 8E WORD +16 16\n" + at,
+        "racks": ben + ">A: DORWAEE 8E WORD +16 16\n" + at,
+        "ann-whole": ann + WORD + at.replace(": AT", ": AEEIRST"),
+        "own-wrong": ann + ">A: DORXAAE 8E WORD +16 16\n" + at.replace(": AT", ": AEEIRST"),
+        "ben-whole": ben + WORD + at.replace(": AT", ": AEEIRST"),
+        "ben-wrong": ben + WORD + at.replace(": AT", ": AEEIRSX"),
+        "totals": ben + ">A: 8E WORD +16 16\n" + at.replace("+9 9", "+19 19"),
+    }.items():
+        Path(run.folder, name).write_text(text)
+    run.row([*told, "ann", "ben"], 0, done, wrote=merged)
+    racks = "line 3 | line 3: rack AADEORW | rack ADEEORW: the first, the sheet of A\n"
+    run.row([*told, "ann", "racks"], 1, racks + done, wrote=merged)
+    # If no deal yields the rack of the player's own sheet, that of the other sheet is taken.
+    own = [": the second; with the first, the sheet of A", ": the first; with the second, the sheet of B"]
+    for sheets, texts, why in [
+        (("own-wrong", "ben-whole"), ("rack AADEORX | rack AADEORW", None), ("no deal yields the racks", None)),
+        (("ann-whole", "ben-wrong"), (None, "rack AEEIRST | rack AEEIRSX"), (None, "no deal yields the racks")),
+        (("own-wrong", "ben-wrong"), ("rack AADEORX | rack AADEORW", "rack AEEIRST | rack AEEIRSX"), ("no deal yields the racks",) * 2),
+    ]:
+        lines = [f"line {k} | line {k}: {text}{own[k - 3]}, {why[k - 3]}\n" for k, text in enumerate(texts, 3) if text]
+        run.row([*told, *sheets], 1, "".join(lines) + done, wrote=merged.replace(b": AT", b": AEEIRST"))
+    scores = "line 4 | line 4: 9G AT +9 9 | 9G AT +19 19: the rules give 9\n"
+    totals = "total of B: 9 | 19: the rules give 9\nA is ahead by 7; by the second sheet B is ahead by 3\n"
+    run.row([*told, "ann", "totals"], 1, scores + "legal unfinished\n" + totals + "written: the merged record\n", wrote=merged)
 
 
 def explained(run):
@@ -1554,15 +1659,16 @@ def explained(run):
         told("nothing", 3, "no game\n", *line)
         told("page", 3, "no game\n", *line)
     named = "latin-wrong", 1, "illegal line 2: WrongTotal 16\nline 2: >\u00c9va: DORWAAE 8E WORD +16 17\n\u00c9va had 0 and scores 16 on this line, which makes 16, but 17 is written.\n"
-    told(named[0], named[1], named[2] + WORD_SUMS + picture_of(2, True, WORD_MARKED))
+    by_hand = "is ahead by 16; by the sheet"
+    told(named[0], named[1], named[2] + WORD_SUMS + picture_of(2, True, WORD_MARKED) + f"\u00c9va {by_hand} \u00c9va is ahead by 17\n")
     for line in ([], ["0"], ["1"]):
         score = "illegal line 1: WrongScore 16\nline 1: >A: DORWAAE 8E WORD +18 18\nThe play scores 16, but 18 is written.\n"
-        told("line-18", 1, score + WORD_SUMS + picture_of(1, True, WORD_MARKED), *line)
+        told("line-18", 1, score + WORD_SUMS + picture_of(1, True, WORD_MARKED) + ("" if line else f"A {by_hand} A is ahead by 18\n"), *line)
     down = "illegal line 1: WrongScore 16\nline 1: >A: DORWAAE H8 WORD +18 18\nThe play scores 16, but 18 is written.\n"
     Path(run.folder, "down").write_text(">A: DORWAAE H8 WORD +18 18\n")
-    told("down", 1, down + DOWN_SUMS + picture_of(1, True, *DOWN_MARKED))
+    told("down", 1, down + DOWN_SUMS + picture_of(1, True, *DOWN_MARKED) + f"A {by_hand} A is ahead by 18\n")
     total = "illegal line 1: WrongTotal 16\nline 1: >A: DORWAAE 8E WORD +16 17\nA had 0 and scores 16 on this line, which makes 16, but 17 is written.\n"
-    told("line-17", 1, total + WORD_SUMS + picture_of(1, True, WORD_MARKED))
+    told("line-17", 1, total + WORD_SUMS + picture_of(1, True, WORD_MARKED) + f"A {by_hand} A is ahead by 17\n")
     turn = "illegal line 2: NotYourTurn\nline 2: >A: - +0 16\nIt is the other player's turn, not A's.\n"
     told("turn", 1, turn + picture_of(2, False, ROW_OF_WORD))
     centre = "illegal line 1: MissesCentre\nline 1: >A: DORWAAE 8D WORD +16 16\nThe first play of a game has to cover 8H, and this one does not.\n"
@@ -1594,7 +1700,7 @@ def explained(run):
     read = "X is played, but the rack AADEORW has none.\nWith W for X on 8E the play makes WORD, and scores 16, as is written.\n"
     told("misread", 1, f"illegal line 1: WrongScore 24\nline 1: {MISREAD}The play scores 24, but 16 is written.\n{read}{XORD_SUMS}" + picture_of(1, True, WORD_MARKED))
     blank = "With the W on 8E as a blank the play scores 8, as is written.\n"
-    told("as-blank", 1, f"illegal line 1: WrongScore 16\nline 1: >A: 8E WORD +8 8\nThe play scores 16, but 8 is written.\n{blank}{WORD_SUMS}" + picture_of(1, True, WORD_MARKED))
+    told("as-blank", 1, f"illegal line 1: WrongScore 16\nline 1: >A: 8E WORD +8 8\nThe play scores 16, but 8 is written.\n{blank}{WORD_SUMS}" + picture_of(1, True, WORD_MARKED) + f"A {by_hand} A is ahead by 8\n")
     gone = "It is B's turn, not A's.\nA line of B with +9 seems to be missing between lines 1 and 2.\n"
     told("gone", 1, f"illegal line 2: NotYourTurn\nline 2: >A: - +0 16\n{gone}" + picture_of(2, False, ROW_OF_WORD))
     told("short-line", 3, "bad record line 1: Code\nline 1: >A: 8E WORD +16\n" + NOT_AN_EVENT + "The score or the total is missing: an event ends with both.\n")
@@ -1631,7 +1737,9 @@ def paged(run):
         run.expect(f"no likely repair on the page of {game}", not banner.all("p", "likely"))
     rows = {
         "line": ["1", "A", "8E WORD", "+16", "16", "AADEORW", "8E WORD 16", "equal"],
-        "line-18": ["1", "A", "8E WORD fault", "+18", "18", "AADEORW", "8E WORD 16", "equal", "score 16 total 16"],
+        "line-18": ["1", "A", "8E WORD fault", "+18", "18", "AADEORW", "8E WORD 16", "equal", "score 16"],
+        "score-alone": ["1", "A", "8E WORD fault", "+18", "16", "AADEORW", "8E WORD 16", "equal", "score 16"],
+        "total-alone": ["1", "A", "8E WORD fault", "+16", "17", "AADEORW", "8E WORD 16", "equal", "total 16"],
         "line-17": ["1", "A", "8E WORD fault", "+16", "17", "AADEORW", "8E WORD 16", "equal", "total 16"],
     }
     for game, cells in rows.items():
@@ -1819,7 +1927,7 @@ def put_out(run):
         ([*page, "-"], (0, Path(run.folder, "out").read_bytes(), b"legal unfinished\n")),
         (["page", "word", "word.gad", "third", "-"], (3, b"", b"bad record line 3: ThirdPlayer\n" + BAD["third"].encode() + b"\n")),
         (["page", "digit", "word.gad", "line", "-"], (3, b"", b"bad word list line 2: BadLetter\n")),
-        (["audit", "--corrected", "-", "word", "word.gad", "line-17"], (1, WORD.encode(), b"line 1: sum 17, should be 16 (A, 8E WORD)\ntotal of A: 17, should be 16\nlegal unfinished\n")),
+        (["audit", "--corrected", "-", "word", "word.gad", "line-17"], (1, WORD.encode(), b"line 1: sum 17, should be 16 (A, 8E WORD)\nlegal unfinished\nA is ahead by 16; by the sheet A is ahead by 17\n")),
         (["audit", "--corrected", "-", "word", "word.gad", "turn"], (1, b"", b"illegal line 2: NotYourTurn\n")),
         (["audit", "--corrected", "-", "at", "extra.gad", "line"], (3, b"", b"bad lexicon: Extra A\nreferee: extra.gad is the lexicon of another list than at: make its own by referee build\n")),
     ]:
@@ -1982,19 +2090,25 @@ def in_json(run):
         run.row(["check", "--json", "at", "at.gad"], 4, error="referee: write failed: standard output: no space left, error 28 of the system", stdout="/dev/full")
     run.row(["check", "--json", "--json", "at", "at.gad"], 64, error=None)
     audit = ["audit", "--json", "word", "word.gad"]
-    keys = '{"verdict":"%s","line":%s,"fault":%s,"ending":%s,"players":[{"nick":"A","name":null},{"nick":null,"name":null}],"wrong":[%s],"unread_lines":[]}\n'
+    keys = '{"verdict":"%s","line":%s,"fault":%s,"ending":%s,"players":[{"nick":"A","name":null},{"nick":null,"name":null}],"wrong":[%s],"ahead":{"player":1,"by":16},"ahead_by_sheet":{"player":1,"by":%d},"amount":null,"unread_lines":[]}\n'
     event = '"line":1,"player":1,"nick":"A","kind":"play","place":"8E","direction":"across","text":"WORD"'
     score, total = f'{{"wrong":"score",{event},"written":18,"sum":null,"right":16}}', '"kind":null,"place":null,"direction":null,"text":null'
     last = f'{{"wrong":"last total","line":null,"player":1,"nick":"A",{total},"written":%d,"sum":null,"right":16}}'
     good = ("legal", "null", "null", '"unfinished"')
-    run.row([*audit, "line"], 0, keys % (*good, ""))
-    run.row([*audit, "line-18"], 1, keys % (*good, f"{score},{last % 18}"))
-    run.row([*audit, "score-and-sum"], 1, keys % (*good, f'{score},{{"wrong":"sum",{event},"written":19,"sum":18,"right":16}},{last % 19}'))
+    run.row([*audit, "line"], 0, keys % (*good, "", 16))
+    run.row([*audit, "line-18"], 1, keys % (*good, f"{score},{last % 18}", 18))
+    run.row([*audit, "score-and-sum"], 1, keys % (*good, f'{score},{{"wrong":"sum",{event},"written":19,"sum":18,"right":16}}', 19))
     game = told([*audit, "sum-then-turn"])
     run.expect("a sum before the line at which the correction stops", [game["wrong"][0][key] for key in ("written", "sum", "right")] == [15, 16, 16])
     run.expect("a sum on that line", [game["wrong"][1][key] for key in ("line", "kind", "written", "sum", "right")] == [2, "time", 4, 0, None])
     run.expect("no last total without a correction", [it["wrong"] for it in game["wrong"]] == ["sum", "sum"] and game["line"] == 2)
-    run.row([*audit, "nothing"], 3, '{"verdict":"no game","line":null,"fault":null,"ending":null,"players":[%s,%s],"wrong":[],"unread_lines":[]}\n' % (('{"nick":null,"name":null}',) * 2))
+    amount, first = (told([command, "--json", "word", "word.gad", "bonus-missing"]) for command in ("audit", "repair"))
+    run.expect("a bonus that would explain the numbers", amount["amount"] == first["repairs"][0] and amount["amount"]["slip"] == "bonus missing")
+    for game, wrong in (("score-alone", ("score", 18)), ("total-alone", ("sum", 17)), ("total-carried", ("sum", 17))):
+        alone = told(["repair", "--json", "word", "word.gad", game])["numbers_alone"]
+        counted = {"numbers": 6, "numbers_right": 5, "wrong": [{"wrong": wrong[0], "line": 1, "written": wrong[1], "right": 16}], "unlisted": []}
+        run.expect(f"the numbers that repair counts of {game}", alone == counted)
+    run.row([*audit, "nothing"], 3, '{"verdict":"no game","line":null,"fault":null,"ending":null,"players":[%s,%s],"wrong":[],"ahead":null,"ahead_by_sheet":null,"amount":null,"unread_lines":[]}\n' % (('{"nick":null,"name":null}',) * 2))
     run.row([*audit, "third"], 3, refusal("bad record", 3, {"name": "ThirdPlayer"}))
     run.row([*audit, "nowhere"], 4, refusal("cannot open", file="nowhere"), error="referee: cannot open nowhere: no such file")
     run.row([*audit, "--corrected", "out", "line"], 64, error=None)
@@ -2042,7 +2156,7 @@ def lines_unread(run):
         run.row(["tidy", game], 0, "#player1 A\n>A: AADEORW 8E WORD +16 16\n", error=error)
         run.row(["board", game], 0, None, error=error)
         run.row(["top", *pair, game, "A"], 0, None, error=error)
-        run.row(["audit", *pair, game], 0, "legal unfinished\n", error=error)
+        run.row(["audit", *pair, game], 0, "legal unfinished\nA is ahead by 16\n", error=error)
         run.row(["repair", *pair, game], 0, "legal unfinished\n", error=error)
         run.row(["page", *pair, game, "out"], 0, "legal unfinished\n", error=error)
         run.row(["annotate", *pair, game, "out"], 0, "legal unfinished\n", error=error)

@@ -2,13 +2,13 @@
 
 Each case is a game that nobody dealt, or one that was dealt for real with mistakes of a director's day (`mistakes.py`). The verdict is
 explained, and then one of the lines. The likely repair, with which the explanation of an illegal record may end, is compared by
-`compare_repairs`. The last line says how often each fault was explained.
+`compare_repairs`. Who is ahead by the right numbers comes last, if a number is wrong and there is no likely repair. The last line says how often each fault was explained.
 """
 import random
 
 from advice import advice
-from answers import explained, status_of
-from comparing import Differences, compare_cases, suggestion
+from answers import explained, lead_of, status_of
+from comparing import Differences, compare_cases, suggestion, without_lead
 from dealing import likely, line
 from mistakes import some_inputs, with_unread_lines
 
@@ -29,7 +29,10 @@ class Explaining(Differences):
         by = ["--rules", "rules"] if text is not None else []
         named = [] if asked is None else [str(asked)]
         ran = self.run("explain", *by, "words", "lexicon", "game", *named)
-        said, likely, _ = suggestion(ran.stdout)
+        printed, good = without_lead(ran.stdout, lead_of(words, lexicon, game, text)) if asked is None else (ran.stdout, True)
+        self.expect(good, "who is ahead", ran.stdout.decode("latin-1"), game.decode("latin-1"))
+        self.seen["who is ahead"] += printed != ran.stdout
+        said, likely, _ = suggestion(printed)
         self.seen["with a likely repair"] += bool(likely)
         self.expect(not likely or asked is None and said.startswith(b"illegal "), "a likely repair of line", asked, said.decode("latin-1"))
         first = said.split(b"\n")[0]

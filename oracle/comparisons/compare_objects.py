@@ -10,8 +10,8 @@ import random
 from answers import lines_of
 from comparing import Differences, compare_cases
 from dealing import likely, line
-from explained_objects import without_likely
-from making import random_rack
+from explained_objects import without_amount, without_likely
+from making import in_either_case, random_rack
 from mistakes import some_inputs, with_unread_lines
 from objects import audited_objects, boarded_object, checked_object, explained_objects, judged_objects, topped_object
 from rules import ENGLISH
@@ -42,7 +42,7 @@ class Objects(Differences):
             line_asked = [] if asked is None else [str(asked)]
             self.compare(["explain", *by, *pair, "game", *line_asked], explained_objects(words, lexicon, game, asked, text), asked)
         before, number = some_line(game), random.choice([1, 9, 10, 11, 40, 100])
-        rack = random.choice(["", "AB1", "ABCDEFGH"]) if likely(0.1) else random_rack(TILES) if before is None or likely(0.5) else None
+        rack = random.choice(["", "AB1", "ABCDEFGH"]) if likely(0.1) else in_either_case(random_rack(TILES)) if before is None or likely(0.5) else None
         asked = ["--before", str(before)] if before is not None else []
         told = topped_object(words, lexicon, game, rack, text, number, before)
         self.compare(["top", "--number", str(number), *asked, *by, *pair, "game", *([] if rack is None else [rack])], [told])
@@ -50,9 +50,10 @@ class Objects(Differences):
         self.compare(["check", *pair], [checked_object(words, lexicon)])
 
     def compare(self, asked, wanted, explained=None):
-        """Compares an object with those that the second judge has. What repair `explain` finds likely is compared by compare_repairs."""
+        """Compares an object with those that the second judge has. What repair `explain` finds likely is compared by compare_repairs,
+        and what bonus or penalty `audit` finds by compare_audits."""
         ran = self.run(asked[0], "--json", *asked[1:])
-        told = without_likely(json.loads(ran.stdout), explained)
+        told = without_amount(without_likely(json.loads(ran.stdout), explained))
         self.seen[f"{asked[0]}: {told['verdict']}"] += 1
         if told["fault"]:
             self.seen[f"fault: {', '.join(told['fault'])}"] += 1

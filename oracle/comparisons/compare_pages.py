@@ -9,6 +9,7 @@ events has less than 150 kB.
 import random
 
 import audits
+import web
 from advice import advice
 from answers import lines_of, status_of, words_of
 from archive_lines import states_latin
@@ -70,6 +71,16 @@ class Pages(Differences):
         ran = self.run("page", *by, "words", "lexicon", "game", "out")
         return ran, (self.folder / "out").read_bytes() if (self.folder / "out").exists() else None
 
+    def results(self, by_the_sheet, game, events, lines, listed, rules, page):
+        """What may be said of the result: who is ahead by the right numbers if one is wrong and no likely repair is shown, or else by those of the sheet."""
+        nicks = [player[0].decode("latin-1") if player else "" for player in read(game)[0]]
+        wrong, verdicts = audits.ways(events, listed, rules, lines, nicks)
+        if not wrong or b'<p class="why likely">' in page:
+            return [by_the_sheet]
+        leads = [verdict.partition("\n")[2] for verdict in verdicts]
+        shown = [it if states_latin(game) else it.encode("latin-1").decode(errors="replace") for it in leads]
+        return [f"{lead}." if lead else by_the_sheet for lead in shown]
+
     def compare(self, words, game, text, rules):
         by = ["--rules", "rules"] if text is not None else []
         ran, page = self.page(by)
@@ -93,6 +104,10 @@ class Pages(Differences):
         self.expect(len(events) > 30 or len(page) < 150_000, len(page), "bytes")
         players = [in_utf8(game, player) for player in players]
         wanted = expected(verdict, players, events, lines, listed, rules, words, text, game, states_latin(game), page.decode("latin-1"))
+        results = self.results(wanted["result"], game, events, lines, listed, rules, page)
+        said = web.read(page).first("header").first("p", "result").text()
+        self.seen["who is ahead by the right numbers"] += said in results and said != wanted["result"]
+        wanted["result"] = said if said in results else results[0]
         told = differences(page, wanted | {"back": None})
         self.expect(not told, *told[:5], game.decode("latin-1"))
         return self.expect(self.page(by)[1] == page, "another page")

@@ -11,23 +11,27 @@ import random
 import re
 from collections import Counter
 from dataclasses import replace
+from math import inf
 
 import web
+from chains import TWO_NUMBERS, chain
 from comparing import Differences, compared
 from compare_changes import line_of
 from deals import events_of
 from game_pages import board_read, pictured
 from lexicons import build
 from pairs import pairs
-from repair_rows import LINES, NONE, PHONIES, ROWS, TWO, puts
+from repair_rows import CHAINS, LINES, NONE, PHONIES, ROWS, TWO, puts
 from repair_figures import SLIPS, STYLES, TURNS, some_sheet, with_two_slips
-from repair_texts import amount_repair, choice, likely_repair, pairs_text, repair_text, suggested_text, with_numbers
+from repair_texts import amount_repair, chain_text, choice, likely_repair, likely_sheet, pairs_text, repair_text, sheet_text, suggested_text, with_numbers
 from repairs import NOTHING, Front, repairs
 from rules import ENGLISH
 from rules_texts import text_of
+from sheet_slips import of_text
 
 MOST = 100
 TWO_CHANGES = "with two changes:\n"
+CHAINED = re.compile("(?m)^with [0-9]+ changes, one after the other:\n")
 
 
 def told_by(differences, rules, listed, text, number=MOST):
@@ -74,6 +78,11 @@ def rows(differences):
     for rules, words, record in PHONIES:
         status, answer = told_by(differences, rules, set(words.split()), record)
         differences.expect(answer["repairs"] and not answer["pairs"] and status == 1, record, f"told {status} {list(pairs_told(answer))}")
+    for rules, words, record, told in CHAINS:
+        status, answer = told_by(differences, rules, set(words.split()), record)
+        there = answer["chain"] and [named(line) for change in answer["chain"]["changes"] for line in change["lines"]]
+        differences.expect(there == told and status == 1, record, f"told {status} {there} for {told}")
+        chained(differences, rules, set(words.split()), events_of(record), record, nicks_in(record))
     for rules, words, record, wanted in LINES:
         status, answer = told_by(differences, rules, set(words.split()), record)
         many = 1 + len(answer["repairs"][0]["others"])
@@ -119,8 +128,8 @@ def texts(differences, rules, listed, text, name):
         return
     nicks = nicks_in(text)
     done = differences.run("repair", "--rules", "rules", "words", "lexicon", "game")
-    told = done.stdout.decode().split("\n", 1)[1].split(TWO_CHANGES)[0]
-    wanted = repair_text(events, listed, rules, nicks)
+    told = CHAINED.split(done.stdout.decode().split("\n", 1)[1].split(TWO_CHANGES)[0])[0]
+    wanted = repair_text(events, listed, rules, nicks, game=text.encode())
     told = "".join(line + "\n" for line in told.split("\n")[:-1] if not line.endswith("but no deal was found"))
     differences.expect(told == wanted, name, text, told, "second judge", wanted)
 
@@ -140,15 +149,17 @@ def likely(differences, events, listed, text, found, two):
     names = names_in(text)
     said = differences.run("explain", "words", "lexicon", "game").stdout.decode()
     told = said[said.index("\nLikely: ") + 1 :] if "\nLikely: " in said else ""
-    repair = likely_repair(found, two, events, listed)
-    wanted = suggested_text("Likely", repair, events, names) if repair else ""
+    sheets = of_text(text.encode(), listed)
+    repair, sheet = (find(found, two, events, listed, ENGLISH, sheets) for find in (likely_repair, likely_sheet))
+    wanted = suggested_text("Likely", repair, events, names) if repair else f"Likely: {sheet.said}\n{sheet_text(sheet)}" if sheet else ""
     differences.seen["likely repairs"] += bool(told)
     differences.expect(told == wanted, text, f"explained {told}", f"second judge {wanted}")
     other = said[said.index("\nOr: ") + 1 :] if "\nOr: " in said else ""
-    amount = None if repair or ": WrongTotal " not in said.split("\n")[0] else amount_repair(found, events, listed)
+    amount = None if repair or sheet or ": WrongTotal " not in said.split("\n")[0] else amount_repair(found, events, listed)
     differences.seen["bonuses and penalties"] += bool(other)
     differences.expect(other == (suggested_text("Or", amount, events, names) if amount else ""), text, f"explained {other}", amount)
-    likely_object(differences, text, told)
+    if not sheet:
+        likely_object(differences, text, told)
     likely_page(differences, text, told, repair if repair and is_of_play(repair.change, events) else None)
 
 
@@ -186,7 +197,7 @@ def pair_texts(differences, text, name, found, events, nicks):
     """Compares all that is printed of pairs of changes."""
     done = differences.run("repair", "--rules", "rules", "words", "lexicon", "game")
     parts = done.stdout.decode().split(TWO_CHANGES)
-    told, wanted = TWO_CHANGES + parts[1] if parts[1:] else "", pairs_text(events, found, nicks)
+    told, wanted = TWO_CHANGES + CHAINED.split(parts[1])[0] if parts[1:] else "", pairs_text(events, found, nicks)
     differences.expect(told == wanted, name, text, told, "second judge", wanted)
 
 
@@ -202,7 +213,8 @@ def repaired(differences, listed, text, found):
     if not known:
         return
     alone = with_numbers(events, listed)
-    chosen = {"repair": found[0] if found else None, "numbers": alone}.get(choice(found, two, alone, events))
+    sheets = of_text(noted.encode(), listed)
+    chosen = {"repair": found[0] if found else None, "numbers": alone, "sheet": sheets[0].repair if sheets else None}.get(choice(found, two, alone, events, sheets))
     wanted = "".join(map(line_of, chosen.right())) if chosen else None
     said = done.stdout.decode().rpartition("\nwritten: ")[2] if chosen else ""
     differences.expect(said == ("" if not chosen else "the sheet with its right numbers\n" if chosen is alone else "the sheet with the first repair\n"), text, said)
@@ -276,16 +288,56 @@ def two_slips(differences):
     differences.expect(few[0] == few[1], "two slips", text, f"program {few[0][:5]}", f"second judge {few[1][:5]}")
 
 
+def chain_wanted(events, listed, rules=ENGLISH):
+    """The chain that is told of a record, or None; and whether the second judge knows of all changes whether a deal fits."""
+    singles, (two, known), alone = repairs(events, listed, rules), pairs(events, listed, rules), with_numbers(events, listed, rules)
+    sheets = of_text("".join(map(line_of, events)).encode(), listed, rules)
+    least = min((it.cost for it in [*[it for it in singles if it.dealt], *two, *sheets, *([alone] if alone else [])]), default=inf)
+    if not known or not all(it.dealt for it in singles):
+        return None, False
+    if least <= TWO_NUMBERS:
+        return None, True
+    found, known = chain(events, listed, rules)
+    return found if found and found.cost < least else None, known
+
+
+def chained(differences, rules, listed, events, text, nicks):
+    """Compares what is told of several changes."""
+    found, known = chain_wanted(events, listed, rules)
+    if not known:
+        return
+    said = differences.run("repair", "--rules", "rules", "words", "lexicon", "game").stdout.decode()
+    there = CHAINED.search(said)
+    told, wanted = said[there.start() :] if there else "", chain_text(events, found, nicks)
+    differences.seen[f"chains of {len(found.steps) + 1 if found else 0}"] += 1
+    differences.expect(told == wanted, text, f"told {told}", f"second judge {wanted}")
+
+
+def more_slips(differences):
+    """A record with three slips: the program has to tell the same chain as the second judge."""
+    while True:
+        _, sheet, listed = with_two_slips(TURNS, random.choice(STYLES))
+        made = SLIPS[random.choice(list(SLIPS))](sheet)
+        if made and made[0] == sheet and made[1] != sheet:
+            break
+    text = "".join(map(line_of, made[1]))
+    status, answer = told_by(differences, ENGLISH, listed, text)
+    if status == 1:
+        chained(differences, ENGLISH, listed, made[1], text, names_in(text))
+
+
 def main():
     def compare(differences, cases):
         rows(differences)
         for number in range(cases):
             case(differences, number) if number % 3 else two_slips(differences)
+        for _ in range(cases // 6):
+            more_slips(differences)
         for _ in range(cases):
             small(differences)
 
     differences, cases = compared(Differences, compare)
-    differences.end(2 * cases + len(ROWS) + len(NONE) + len(TWO) + len(PHONIES) + len(LINES), "records")
+    differences.end(2 * cases + cases // 6 + sum(map(len, (ROWS, NONE, TWO, PHONIES, CHAINS, LINES))), "records")
 
 
 if __name__ == "__main__":

@@ -13,9 +13,9 @@ import subprocess
 from answers import lines_of
 from comparing import Differences, compare_cases
 from dealing import in_order, likely, line
-from explained_objects import without_likely
+from explained_objects import without_amount, without_likely
 from games import Event
-from making import random_rack
+from making import in_either_case, random_rack
 from mistakes import MOST, some_game, some_inputs
 from objects import checked_object
 from rules import ENGLISH
@@ -48,7 +48,7 @@ def some_request(game):
     if do == "board":
         return {"do": do, "game": text, "line": at}, ["board", "--json", *before]
     if do == "top":
-        rack = random.choice(["AB1", "ABCDEFGH", "é"]) if likely(0.1) else random_rack(TILES) if at is None or likely(0.5) else None
+        rack = random.choice(["AB1", "ABCDEFGH", "é"]) if likely(0.1) else in_either_case(random_rack(TILES)) if at is None or likely(0.5) else None
         return {"do": do, "game": text, "line": at, "rack": rack, "number": number}, ["top", "--json", *before, *([] if number is None else ["--number", str(number)]), *([] if rack is None else [rack])]
     if do == "word":
         return {"do": do, "words": random.choices(WORDS[:5] if likely(0.7) else WORDS, k=random.randint(1, 4))}, None
@@ -120,7 +120,7 @@ class Served(Differences):
             self.seen[json.loads(request)["do"]] += 1
         said = {key: value for key, value in told.items() if key != "error"}
         if is_request and json.loads(request).get("likely", True) and isinstance(said.get("answer"), dict):
-            said["answer"] = without_likely(said["answer"], json.loads(request).get("line"))
+            said["answer"] = without_amount(without_likely(said["answer"], json.loads(request).get("line")))
         if wanted[0].get("text", "") is None:
             self.expect(said.get("text", "").startswith("<!DOCTYPE html>"), answer)
             said["text"] = None

@@ -1,18 +1,26 @@
 """Compares `referee compare` with what the second judge says of merged records: compare_sheets PROGRAM CASES SEED
 
 Games that were dealt for real are written by two players, each with the own racks and with none, one or two slips of the pen. A sheet and itself have to agree.
+Where both write every rack, and some of them not as they were, all choices of the racks are tried by the second judge: the merged record has to be the game
+with the fewest racks that are not from the player's own sheet.
 A merged record has to be a game by the second judge, if that does not leave open whether a deal fits, of lines that are on the sheets; where no choice of
-them makes a game, one event of it may be on neither. The last line says how often the merged record is the true one, and how often it was repaired.
+them makes a game, one event of it may be on neither. What is said of last totals and of who won has to follow
+from it. The last line says how often the merged record is the true one, and how often it was repaired.
 """
 import random
 from dataclasses import replace
+from itertools import combinations
 
+from answers import lines_of
 from comparing import Differences, compared
 from compare_changes import record_of, text_of_kind
+from dealing import in_order
 from deals import decide, events_of
 from lexicons import build
 from repair_figures import SLIPS, TURNS, some_game
+from rules import ENGLISH
 
+TILES = list(ENGLISH.tiles.elements())
 KEPT = [name for name in SLIPS if "rack" not in name]
 SLIPS_EACH = (0, 0, 0, 1, 1, 1, 2)
 REPAIRED = "with one more change"
@@ -56,15 +64,94 @@ def given(differences, listed, first, second):
     return done, (differences.folder / "out").read_bytes().decode() if there else None
 
 
+def last_totals(events):
+    """The last totals of both players; None for one who has no line."""
+    return [next((it.total for it in reversed(events) if it.player == player), None) for player in (0, 1)]
+
+
+def lead(totals, complete):
+    """Who has more points."""
+    by = (totals[0] or 0) - (totals[1] or 0)
+    if by:
+        return f"{'AB'[by < 0]} {'won' if complete else 'is ahead'} by {abs(by)}"
+    return "both have the same total"
+
+
+def results(sheets, merged, complete):
+    """The lines about last totals that differ, and who won by the merged record, and by a sheet that says otherwise."""
+    own, right, text = [last_totals(sheet) for sheet in sheets], last_totals(merged), ""
+    for player in (0, 1):
+        one, other = ("none" if it[player] is None else it[player] for it in own)
+        if not one == other == right[player]:
+            text += f"total of {'AB'[player]}: {one} | {other}: the rules give {right[player]}\n"
+    text += lead(right, complete)
+    for name, totals in zip(("first", "second"), own):
+        if lead(totals, complete) != lead(right, complete):
+            text += f"; by the {name} sheet {lead(totals, complete)}"
+    return text + "\n"
+
+
 def itself(differences, events, listed):
     """A sheet and itself agree."""
     done, merged = given(differences, listed, events, events)
     verdict = decide(events, listed)[0]
     if not verdict.startswith("legal"):
         return
-    wanted = verdict.strip() + "\nwritten: the merged record\n"
+    wanted = verdict.strip() + "\n" + results((events, events), events, "complete" in verdict) + "written: the merged record\n"
     good = done.returncode == 0 and done.stdout.decode() == wanted and merged == record_of(events)
     differences.expect(good, record_of(events), done.stdout.decode(), f"status {done.returncode}", merged)
+
+
+def spoiled(event):
+    """The event with one tile of its rack another one."""
+    rack = list(event.rack)
+    rack[random.randrange(len(rack))] = random.choice(TILES)
+    return replace(event, rack=in_order(rack))
+
+
+def choices_of(sheets, places):
+    """Each set of places of other racks that is taken from the sheet of the other player, with the events that this makes."""
+    for many in range(len(places) + 1):
+        for taken in combinations(places, many):
+            yield taken, [sheets[it.player ^ (k in taken)][k] for k, it in enumerate(sheets[0])]
+
+
+def rack_lines(sheets, places, taken):
+    """What is said of racks that differ, of which these are taken from the sheet of the other player."""
+    text, lines, names = "", lines_of(record_of(sheets[0]).encode()), ("first", "second")
+    for k in places:
+        own, line = sheets[0][k].player, f"line {lines[k]}"
+        text += f"{line} | {line}: rack {sheets[0][k].rack} | rack {sheets[1][k].rack}: "
+        if k in taken:
+            text += f"the {names[1 - own]}; with the {names[own]}, the sheet of {'AB'[own]}, no deal yields the racks\n"
+        else:
+            text += f"the {names[own]}, the sheet of {'AB'[own]}\n"
+    return text
+
+
+def other_racks(differences, events, listed):
+    """Sheets that differ only in some racks."""
+    stated, sheets = [k for k, it in enumerate(events) if it.rack and it.kind != "rack"], [list(events), list(events)]
+    for k in random.sample(stated, min(len(stated), random.choice((1, 1, 2, 3)))):
+        sheets[random.randrange(2)][k] = spoiled(events[k])
+    places = [k for k, (it, other) in enumerate(zip(*sheets)) if it.rack != other.rack]
+    found = [(taken, made, decide(made, listed)[0]) for taken, made in choices_of(sheets, places)]
+    done, merged = given(differences, listed, *sheets)
+    told, games = done.stdout.decode(), [it for it in found if it[2].startswith("legal")]
+    if any(it[2].startswith("unsettled") for it in found) or "it is not known" in told:
+        differences.seen["racks left open"] += 1
+        return
+    best = [it for it in games if len(it[0]) == len(games[0][0])]
+    differences.seen[f"racks of the other sheet: {len(best[0][0])}" if len(best) == 1 else "racks with rivals" if best else "racks of no game"] += 1
+    if len(best) == 1:
+        taken, made, verdict = best[0]
+        wanted = rack_lines(sheets, places, taken) + verdict.strip() + "\n" + results(sheets, made, "complete" in verdict) + "written: the merged record\n"
+        differences.expect(told == wanted and merged == record_of(made), *map(record_of, sheets), told, wanted, merged)
+    elif best:
+        differences.expect(merged is None and "another choice of the lines would stand as well" in told, *map(record_of, sheets), told)
+    else:
+        many = 2 ** len(places)
+        differences.expect(f"none of {many} choice{'s' if many > 1 else ''} of the lines is known to be a game\n" in told, *map(record_of, sheets), told)
 
 
 def case(differences, number):
@@ -73,6 +160,7 @@ def case(differences, number):
         return
     sheets = [with_slips(own_racks(events, player), random.choice(SLIPS_EACH)) for player in (0, 1)]
     itself(differences, events, listed)
+    other_racks(differences, events, listed)
     done, merged = given(differences, listed, *sheets)
     told = done.stdout.decode()
     shown = [record_of(sheet) for sheet in sheets]
@@ -89,6 +177,9 @@ def case(differences, number):
     verdict = decide(made, listed)[0]
     differences.seen["deals left open"] += verdict.startswith("unsettled")
     differences.expect(not verdict.startswith("illegal"), *shown, merged, verdict)
+    complete = "\nlegal complete\n" in "\n" + told
+    end = results(sheets, made, complete) + "written: the merged record\n"
+    differences.expect(told.endswith(f"legal {'complete' if complete else 'unfinished'}\n{end}"), *shown, told, end)
     lines = {bare(event) for sheet in sheets for event in sheet}
     others = [event for event in made if bare(event) not in lines]
     repaired = REPAIRED in told

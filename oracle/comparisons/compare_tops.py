@@ -14,7 +14,7 @@ from best import MANY, best_plays
 from comparing import compared
 from dealing import Dealer, line, words_in_reach
 from lexicons import build
-from making import random_rack
+from making import in_either_case, random_rack
 from rules import ENGLISH
 
 
@@ -42,7 +42,7 @@ class Tops:
         self.game.write_text(text)
         number = random.choice([MANY, 1, 9, 11, 40, 100])
         asked = [] if number == MANY else ["--number", str(number)]
-        words = [self.program, "top", *asked, self.words, self.lexicon, self.game, rack]
+        words = [self.program, "top", *asked, self.words, self.lexicon, self.game, in_either_case(rack)]
         told = subprocess.run(words, capture_output=True, check=False).stdout.decode()
         plays, expected = best_plays(board, rack, listed, number=number)
         self.kinds["none" if not plays else "fewer" if len(plays) < number else "as many" if len(plays) == number else "more"] += 1

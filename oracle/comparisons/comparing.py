@@ -11,6 +11,8 @@ from best import kinds_told
 from deals import judge_deal, legal_report, settled_ways
 from lexicons import build
 
+NOT_WRITTEN = "not written: first say which it is, the bonus or the penalty after Or: or the wrong number"
+
 
 class Differences:
     """A program, a folder for its inputs, how many differences were printed, and what was seen how often."""
@@ -39,6 +41,15 @@ class Differences:
         sys.exit(self.differences > 0)
 
 
+def without_lead(printed, leads):
+    """What `explain` prints of a record, without the line that says who is ahead by the right numbers; whether that is one of these, or nothing if the
+    record has a likely repair."""
+    if b"\nLikely: " in printed:
+        return printed, True
+    lead = max((it for it in leads if printed.endswith(b"\n" + it)), key=len, default=None)
+    return printed.removesuffix(lead or b""), lead is not None and (lead != b"" or b"" in leads)
+
+
 def suggestion(printed):
     """What `explain` prints up to the likely repair or to a bonus or a penalty, the word before that, and what follows."""
     for word in (b"Likely: ", b"Or: "):
@@ -46,6 +57,13 @@ def suggestion(printed):
         if found:
             return said + b"\n", word, rest
     return printed, b"", b""
+
+
+def without_amount(lines):
+    """The lines of an audit without what is said of a bonus or a penalty that would explain its numbers, and that."""
+    first = next((k for k, text in enumerate(lines) if text.startswith("Or: ")), len(lines))
+    last = next((k for k in range(first + 1, len(lines)) if not lines[k].startswith("  ")), len(lines))
+    return [it for it in lines[:first] + lines[last:] if it != NOT_WRITTEN], lines[first:last]
 
 
 def compared(make, compare):

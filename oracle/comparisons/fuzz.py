@@ -15,8 +15,8 @@ from pathlib import Path
 
 import web
 from annotations import annotated
-from answers import NO_GAME, audit_status, audited, boarded, built, checked, converted, error_of, explained, first_fields, judged, settled, status_of, topped, words_of
-from comparing import suggestion
+from answers import NO_GAME, audit_status, audited, boarded, built, checked, converted, error_of, explained, first_fields, judged, lead_of, settled, status_of, topped, words_of
+from comparing import suggestion, without_amount, without_lead
 from dealing import Dealer, likely, line, words_in_reach
 from lexicons import GAD2, build, convert
 from mistakes import with_unread_line
@@ -123,9 +123,10 @@ class Fuzzer:
         words = ["audit", *by, "--corrected", self.out, self.words, self.lexicon, self.game]
         ran = subprocess.run([self.program, *words], capture_output=True, check=False, timeout=60)
         self.seen[f"audit {ran.returncode}"] += 1
-        verdict = ran.stdout.split(b"\n")[-2:-1]
-        wrote = self.out.exists() == any(it.startswith((b"legal", b"unsettled")) for it in verdict)
-        if ran.stdout not in ways or ran.returncode != audit_status(ran.stdout) or ran.stderr != error_of(words, ran.stdout, self.game) or not wrote:
+        rest, amount = without_amount(ran.stdout.decode("latin-1").split("\n"))
+        said = "\n".join(rest).encode("latin-1")
+        wrote = self.out.exists() == (any(it.startswith(("legal", "unsettled")) for it in rest) and not amount)
+        if said not in ways or ran.returncode != audit_status(said) or ran.stderr != error_of(words, said, self.game) or not wrote:
             self.differences += 1
             print(*words, "status", ran.returncode, ran.stdout, ran.stderr, "for", ways[:2], self.game.read_bytes(), sep="\n  ")
 
@@ -135,9 +136,10 @@ class Fuzzer:
         named = [] if asked is None else [str(asked)]
         line_ = [self.program, "explain", *by, self.words, self.lexicon, self.game, *named]
         printed = subprocess.run(line_, capture_output=True, check=False, timeout=60).stdout
-        said, word, repair = suggestion(printed)
+        bare, good = without_lead(printed, lead_of(words, lexicon, game, text)) if asked is None else (printed, True)
+        said, word, repair = suggestion(bare)
         told = explained(words, lexicon, game, asked, said, text)
-        self.compare(line_[1:], told + word + repair, status_of(told))
+        self.compare(line_[1:], told + word + repair + printed[len(bare) :] if good else b"who is ahead", status_of(told))
 
     def page(self, by, ways):
         """`page` has to print the verdict line of one of some answers, and to write a page that can be read exactly where there is a record."""

@@ -64,6 +64,11 @@ TWO = [
     (ENGLISH, "AT RA DT", TWICE_AT + EAT, 6, ("", ">A: -- -5 16\n")),
 ]
 
+# Records with three slips: the rules, the words, the record, and what each change of the chain puts there.
+CHAINS = [
+    (ENGLISH, WORDS, ">A: AADEORW E8 WORD +16 16\n>B: AT 9A AT +9 9\n>A: E 1F E.. +5 21\n", [WORD, AT, EAT]),
+]
+
 # Records with one slip and with more unlisted words than come from slips: no pair is looked for.
 PHONIES = [
     (ENGLISH, "WORD AT", TWICE_AT + EAT),

@@ -47,6 +47,11 @@ def random_rack(tiles):
     return in_order(rack[1:] + ["?"] if likely(0.3) else rack)
 
 
+def in_either_case(rack):
+    """A rack as a person may name it: as it is, or with some of its letters small."""
+    return "".join(tile.lower() if likely(0.5) else tile for tile in rack) if likely(0.2) else rack
+
+
 class Maker:
     """Makes the events of one game by some rules, mostly allowed ones; the bag and the racks are kept so that games can end."""
 

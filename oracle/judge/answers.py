@@ -129,15 +129,35 @@ def explained(words, lexicon, game, asked, printed, text=None):
     return answered(words, lexicon, game, text, sentences, fault_told)
 
 
+def lead_of(words, lexicon, game, text=None):
+    """The lines that may be said of a sheet as a whole if a number of it is wrong: who is ahead by the right numbers, and by the sheet if that is not the
+    same. They are empty if no number is wrong, or if the rules do not allow the corrected record."""
+
+    def leads(listed, players, events, rules):
+        nicks = [player[0].decode("latin-1") if player else "" for player in players]
+        wrong, verdicts = audits.ways(events, listed, rules, lines_of(game), nicks)
+        said = ["".join(f"{line}\n" for line in verdict.split("\n")[1:]) if wrong else "" for verdict in verdicts]
+        return [it.encode() if states_latin(game) else it.encode("latin-1") for it in said]
+
+    told = answered(words, lexicon, game, text, leads)
+    return told if isinstance(told, list) else [b""]
+
+
 def audit_status(output):
     """The exit status that goes with the lines of an audit."""
-    *wrong, verdict = output.removesuffix(b"\n").split(b"\n")
-    return max(status_of(verdict), 1 if wrong else 0)
+    lines = output.removesuffix(b"\n").split(b"\n")
+    wrong = [line for line in lines if line.startswith((b"line ", b"total of "))]
+    return max(status_of(lines[len(wrong)]), 1 if wrong else 0)
 
 
 def place_before(lines, before):
     """The place of the first event on a line or after it, on whose lines events are; without a line, after the last event."""
     return len(lines) if before is None else next((k for k, line in enumerate(lines) if line >= before), None)
+
+
+def tiles_named(rack):
+    """The tiles of a rack that is named, whose letters may be small; none if it is not a rack."""
+    return rack.upper() if re.fullmatch("[A-Za-z?]{1,7}", rack) else None
 
 
 def topped(words, lexicon, game, rack=None, text=None, number=MANY, before=None):
@@ -147,7 +167,7 @@ def topped(words, lexicon, game, rack=None, text=None, number=MANY, before=None)
         place = place_before(lines_of(game), before)
         if place is None:
             return BAD_LINE
-        shown = rack or (events[place].rack if place < len(events) else None)
+        shown = tiles_named(rack) if rack else (events[place].rack if place < len(events) else None)
         if not shown:
             return BAD_RACK
         verdict = go_through(events[:place], listed, rules=rules)[0]
@@ -155,7 +175,7 @@ def topped(words, lexicon, game, rack=None, text=None, number=MANY, before=None)
             return told_of(verdict, game, players)
         return best_plays(board_after(events[:place], listed, rules), shown, listed, rules, number)[1].encode()
 
-    return answered(words, lexicon, game, text, plays) if rack is None or re.fullmatch("[A-Z?]{1,7}", rack) else BAD_RACK
+    return answered(words, lexicon, game, text, plays) if rack is None or tiles_named(rack) else BAD_RACK
 
 
 def lines_of(game):

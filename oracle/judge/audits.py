@@ -58,35 +58,61 @@ def last_totals(events):
 
 
 def wrong_numbers(events, right, stop, numbers=None, nicks="AB"):
-    """The lines of the wrong scores and sums of a sheet, and of the last totals where it has a correction: where that does not stop at a place."""
+    """The lines of the wrong scores and sums of a sheet, and of the last totals where it has a correction: where that does not stop at a place. A sum is
+    wrong if it is neither what the line before it gives nor, as far as the correction goes, the right total. A last total is told by its line if its
+    sum is wrong."""
     numbers = numbers or range(1, len(events) + 1)
-    told, had = [], {}
+    told, had, by_line = [], {}, {}
     for place, (number, written, other) in enumerate(zip(numbers, events, right)):
         event = f"{nicks[written.player]}, {written.text}"
         if written.score != other.score:
             told.append(f"line {number}: score {written.score}, should be {other.score} ({event})")
         total = had.get(written.player, 0) + written.score
-        if written.total != total:
-            known = stop is None or place < stop
-            told.append(f"line {number}: sum {written.total}, should be {total} ({event}{corrected_total(total, other.total) if known else ''})")
+        due = other.total if stop is None or place < stop else total
+        by_line[written.player] = written.total not in (total, due)
+        if by_line[written.player]:
+            told.append(f"line {number}: sum {written.total}, should be {due} ({event})")
         had[written.player] = written.total
     rights = last_totals(right)
-    told += [f"total of {nicks[k]}: {had[k]}, should be {rights[k]}" for k in sorted(had) if stop is None and had[k] != rights[k]]
+    told += [f"total of {nicks[k]}: {had[k]}, should be {rights[k]}" for k in sorted(had) if stop is None and had[k] != rights[k] and not by_line[k]]
     return told
 
 
-def corrected_total(total, right):
-    """The total on the corrected sheet, where it is another one than the sum."""
-    return f"; on the corrected sheet {right}" if total != right else ""
+def off_by_units(events, right, stop, rules=ENGLISH):
+    """Whether a wrong sum is off by some bonuses for a word or some steps of time: only then a bonus or a penalty is looked for."""
+    had, units = {}, [unit for unit in (rules.challenge_unit, rules.time_step) if unit]
+    for place, (written, other) in enumerate(zip(events, right)):
+        off = written.total - had.get(written.player, 0) - written.score
+        is_wrong = off and not ((stop is None or place < stop) and written.total == other.total)
+        if is_wrong and any(off % unit == 0 for unit in units):
+            return True
+        had[written.player] = written.total
+    return False
 
 
 def ways(events, listed, rules=ENGLISH, numbers=None, nicks="AB"):
-    """The wrong numbers of a sheet, and the verdict lines of which one has to follow."""
+    """The wrong numbers of a sheet, and the verdict lines of which one has to follow, each with the line that says who is ahead if there is one."""
     right, stop = corrected_to(events, listed, rules)
     verdicts = settled_verdicts(right, listed, rules)
     if numbers:
         verdicts = [on_line(verdict, numbers) for verdict in verdicts]
-    return wrong_numbers(events, right, stop, numbers, nicks), verdicts
+    return wrong_numbers(events, right, stop, numbers, nicks), ["\n".join([verdict, *lead(verdict, events, right, nicks)]) for verdict in verdicts]
+
+
+def ahead_of(events):
+    """The player who is ahead, and by how many points; no player where both have the same."""
+    totals = last_totals(events)
+    by = totals.get(0, 0) - totals.get(1, 0)
+    return (None if by == 0 else 0 if by > 0 else 1), abs(by)
+
+
+def lead(verdict, events, right, nicks="AB"):
+    """The line that says who is ahead by the right numbers, and by the sheet if that is not the same; none if the record is illegal."""
+    if verdict.startswith("illegal"):
+        return []
+    verb = "won" if verdict == "legal complete" else "is ahead"
+    said = [f"{nicks[player] or 'the other player'} {verb} by {by}" if by else "both have the same total" for player, by in map(ahead_of, (right, events))]
+    return [said[0] if said[0] == said[1] else "; by the sheet ".join(said)]
 
 
 def on_line(verdict, numbers):
@@ -99,4 +125,4 @@ def on_line(verdict, numbers):
 
 def status(wrong, verdict):
     """The exit status of an audit."""
-    return max(bool(wrong), {"legal": 0, "illegal": 1, "unsettled": 2}[verdict.split(" ")[0]])
+    return max(bool(wrong), {"legal": 0, "illegal": 1, "unsettled": 2}[verdict.split()[0]])

@@ -163,7 +163,7 @@ def missing(game, events, place):
         yield 2, line(player, "pass")
         yield from ((2, line(player, "unknown", size=size)) for size in range(1, RACK + 1))
         for steps in range(1, STEPS + 1):
-            yield 6 if early else 3, line(player, "time", -game.rules.time_step * steps)
+            yield 11 if early else 3, line(player, "time", -game.rules.time_step * steps)
     if place and events[place - 1].kind == "play":
         player = events[place - 1].player
         yield 2, line(player, "withdraw")

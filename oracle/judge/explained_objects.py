@@ -339,6 +339,12 @@ def explained_keys(verdict, game, events, lines, listed, rules, asked, dealt=Fal
     return keys | nothing | {"play": play_object(board, events[at], listed, rules), "board": board_object(board, events[at], rules)}
 
 
+def without_amount(told):
+    """An object of `audit` without the bonus or the penalty that would explain its numbers, which may be there only if a sum is wrong."""
+    may_have = any(it["wrong"] == "sum" for it in told.get("wrong") or []) and isinstance(told.get("amount"), dict)
+    return told | {"amount": None} if may_have else told
+
+
 def without_likely(told, asked):
     """An object of `explain` without its likely repair, where it may have one: without a line that was asked for, and of an illegal record."""
     may_have = told.get("verdict") == "illegal" and asked is None and isinstance(told.get("likely"), dict)

@@ -3,7 +3,7 @@ import re
 from hashlib import sha256
 
 import web
-from audits import corrected
+from audits import corrected_to
 from best import best_plays
 from boards import Refused, place, runs, score_of
 from explains import FACTORS, judged_text, squares_of, whole_text
@@ -103,8 +103,8 @@ def bracketed(best, board):
 
 def facts(events, listed, rules):
     """Of each event its best play, the points more, its unlisted words and its right numbers."""
-    right, _ = corrected(events, listed, rules)
-    game, stands, told = Game(rules), True, []
+    right, stop = corrected_to(events, listed, rules)
+    game, stands, told, had = Game(rules), True, [], [0, 0]
     for k, event in enumerate(events):
         best, more, unlisted = "", None, ""
         if stands:
@@ -122,7 +122,10 @@ def facts(events, listed, rules):
             except Refused:
                 stands = False
         should = [f"score {right[k].score}"] if right[k].score != event.score else []
-        should += [f"total {right[k].total}"] if right[k].total != event.total else []
+        total = had[event.player] + event.score
+        due = right[k].total if stop is None or k < stop else total
+        should += [f"total {due}"] if event.total not in (total, due) else []
+        had[event.player] = event.total
         told.append((best, more, unlisted, " ".join(should)))
     return told
 

@@ -3,8 +3,8 @@ value of each key."""
 import re
 
 import rules_texts
-from answers import answered, checked, lines_of, place_before, told_of
-from audits import corrected_to, last_totals
+from answers import answered, checked, lines_of, place_before, tiles_named, told_of
+from audits import ahead_of, corrected_to, last_totals
 from best import MANY, Search
 from boards import ACROSS
 from deals import event_of, judge_deal, settled_verdicts, settled_ways
@@ -161,24 +161,34 @@ def wrong(what, event, line, nick, numbers):
 
 def wrong_objects(events, right, stop, lines, nicks):
     """Each wrong score and sum of a sheet, and the last totals that are wrong where it has a correction."""
-    had = {}
+    had, by_line = {}, {}
     for place, (event, other) in enumerate(zip(events, right)):
         there = (event, lines[place], nicks[event.player])
         if event.score != other.score:
             yield wrong("score", *there, (event.score, None, other.score))
         total = had.get(event.player, 0) + event.score
-        if event.total != total:
-            yield wrong("sum", *there, (event.total, total, other.total if stop is None or place < stop else None))
+        right_total = other.total if stop is None or place < stop else None
+        by_line[event.player] = event.total not in (total, right_total)
+        if by_line[event.player]:
+            yield wrong("sum", *there, (event.total, total, right_total))
         had[event.player] = event.total
     ends = last_totals(right)
     for player in sorted(had):
-        if stop is None and had[player] != ends[player]:
+        if stop is None and had[player] != ends[player] and not by_line[player]:
             told = {"wrong": "last total", "line": None, "player": player + 1, "nick": nicks[player].decode("utf-8", "replace")}
             yield told | dict.fromkeys(("kind", "place", "direction", "text")) | {"written": had[player], "sum": None, "right": ends[player]}
 
 
+def ahead_keys(verdict, events, right):
+    """Who is ahead by the right numbers and by the sheet; nobody is named if the record is illegal or has no event."""
+    if verdict.startswith(("illegal", "no game")):
+        return {"ahead": None, "ahead_by_sheet": None}
+    both = [{"player": None if player is None else player + 1, "by": by} for player, by in map(ahead_of, (right, events))]
+    return dict(zip(("ahead", "ahead_by_sheet"), both))
+
+
 def audited_objects(words, lexicon, game, text=None):
-    """The objects that `audit --json` may print."""
+    """The objects that `audit --json` may print, but for a bonus or a penalty that would explain the numbers: `without_amount` takes it off an object."""
 
     def objects(listed, players, events, rules):
         right, stop = corrected_to(events, listed, rules)
@@ -187,7 +197,7 @@ def audited_objects(words, lexicon, game, text=None):
         both = [player or (b"", b"") for player in (players[0], players[1])]
         names = [{"nick": text_or_none(nick), "name": text_or_none(name)} for nick, name in both]
         told = list(wrong_objects(events, right, stop, lines_of(game), [nick for nick, _ in both]))
-        return [audit_verdict(verdict) | {"players": names, "wrong": told} | unread_in(game) for verdict in said]
+        return [audit_verdict(verdict) | {"players": names, "wrong": told} | ahead_keys(verdict, events, right) | {"amount": None} | unread_in(game) for verdict in said]
 
     answer = answered(words, lexicon, game, text, objects)
     return answer if isinstance(answer, list) else [refused(answer)]
@@ -220,7 +230,7 @@ def topped_object(words, lexicon, game, rack=None, text=None, number=MANY, befor
         place = place_before(lines_of(game), before)
         if place is None:
             return head("bad line")
-        shown = rack or (events[place].rack if place < len(events) else None)
+        shown = tiles_named(rack) if rack else (events[place].rack if place < len(events) else None)
         if not shown:
             return head("bad rack")
         verdict = go_through(events[:place], listed, rules=rules)[0]
@@ -230,7 +240,7 @@ def topped_object(words, lexicon, game, rack=None, text=None, number=MANY, befor
         found = sorted(Search(listed, rules).plays(board_after(events[:place], listed, rules), shown), key=lambda play: play.rank())
         return head("ok") | {"rack": sorted_tiles(shown), "plays": [play_of(play) for play in found[:number]]}
 
-    if rack is not None and not re.fullmatch("[A-Z?]{1,7}", rack):
+    if rack is not None and not tiles_named(rack):
         return head("bad rack")
     answer = answered(words, lexicon, game, text, plays)
     return answer if isinstance(answer, dict) else refused(answer)

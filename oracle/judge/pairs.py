@@ -66,13 +66,18 @@ def head_by(front, change):
     return Head(change, WRONG_NUMBER * wrong + UNLISTED_WORD * unlisted + change.weight, made_by(change, changed, right))
 
 
-def heads(events, listed, rules=ENGLISH):
-    """The cheapest heads of a record; none if the rules allow each event with its right numbers."""
+def cheapest_heads(events, listed, rules=ENGLISH):
+    """The heads of a record, the cheapest first; none if the rules allow each event with its right numbers."""
     front = Front(rules, events, listed, AnyHands)
     if len(front.taken) == len(events):
         return []
     found = filter(None, (head_by(front, change) for change in front.changes()))
-    return sorted(found, key=lambda it: it.cost)[:HEADS]
+    return sorted(found, key=lambda it: it.cost)
+
+
+def heads(events, listed, rules=ENGLISH):
+    """The first three of these heads, with which pairs go on."""
+    return cheapest_heads(events, listed, rules)[:HEADS]
 
 
 def is_of_sheet(head, then):
@@ -87,7 +92,7 @@ def is_of_sheet(head, then):
     for k, it in enumerate(changed[:place]):
         if it.player == changed[place].player:
             had = had + right[k].score if then.change.adds(k) else it.total
-    return changed[place].score == right[place].score and changed[place].total == had + changed[place].score
+    return changed[place].score == right[place].score and changed[place].total in (had + changed[place].score, right[place].total)
 
 
 def is_likely(single):

@@ -3,8 +3,10 @@ from collections import Counter
 from dataclasses import replace
 
 from changes import ordered
+from pairs import WORDS_OF_SLIPS
 from repairs import NOTHING, WRONG_NUMBER, Front, lines, many_tried, repairs
 from rules import ENGLISH
+from sheet_slips import is_first, of_text
 
 LINES = 10
 
@@ -136,8 +138,8 @@ def wrong_on_sheet(own, right):
         total = had[one.player] + one.score
         if one.score != other.score:
             told.append(f"  line {line}: score {one.score}, should be {other.score}\n")
-        if one.total != total:
-            told.append(f"  line {line}: sum {one.total}, should be {total}\n")
+        if one.total not in (total, other.total):
+            told.append(f"  line {line}: sum {one.total}, should be {other.total}\n")
         had[one.player] = one.total
     return told, many
 
@@ -146,6 +148,14 @@ def evidence(repair, own):
     """How many numbers of the sheet are right, those that are not, and the words that are not in the list."""
     unlisted = repair.words()
     told, many = wrong_on_sheet(with_change(own, repair.change), repair.right())
+    words = f"  not in the list: {', '.join(unlisted)}\n" if unlisted else ""
+    return f"  {many - len(told)} of {things(many, 'number')} right\n" + "".join(told) + words
+
+
+def sheet_text(sheet):
+    """A slip of the whole sheet, and the evidence for it."""
+    told, many = wrong_on_sheet(sheet.own, sheet.repair.right())
+    unlisted = sheet.repair.words()
     words = f"  not in the list: {', '.join(unlisted)}\n" if unlisted else ""
     return f"  {many - len(told)} of {things(many, 'number')} right\n" + "".join(told) + words
 
@@ -175,6 +185,18 @@ def pairs_text(events, found, nicks="AB", number=LINES):
     return "with two changes:\n" + text if text else ""
 
 
+def chain_text(events, found, nicks="AB"):
+    """The lines about several changes, one after the other; none if there is no chain."""
+    if not found:
+        return ""
+    own, said = numbered(events), []
+    for step in found.steps:
+        said.append(what_changes(step.change, step.made, own, nicks))
+        own = [(it, event) for (it, _), event in zip(with_change(own, step.change), step.made)]
+    said.append(what_changes(found.last.change, found.last.right(), own, nicks))
+    return f"with {len(said)} changes, one after the other:\n" + "".join(f"{line}\n" for line in said) + evidence(found.last, own)
+
+
 def with_numbers(events, listed, rules=ENGLISH):
     """The record as it is but for its numbers, if no deal is ruled out."""
     front = Front(rules, events, listed)
@@ -200,11 +222,21 @@ def says_less(first, other, events):
     return not racks[1] or (racks[0].total() == written.total() and racks[1] == written - (written - racks[0]))
 
 
-def choice(found, two, alone, events):
-    """Which sheet is to be kept: 'repair', that of the first repair; 'numbers', that with right numbers; 'open' where that is not known; or none. A
-    repair is ahead of what costs a wrong number more, and of those that say less; and so are the numbers alone of what costs more."""
+def choice(found, two, alone, events, sheets=()):
+    """Which sheet is to be kept: 'sheet', that without the first slip of the whole sheet, or what is kept otherwise if that is ahead of the slips."""
     if not all(it.dealt for it in found):
         return "open"
+    if sheets and is_first(sheets, found, two, alone, WRONG_NUMBER):
+        return "open" if not sheets[0].dealt else None if sheets[0].repair.wrong else "sheet"
+    kept = choice_without(found, two, alone, events)
+    costs = {"repair": found[0].cost if found else 0, "numbers": alone.cost if alone else 0}
+    return None if sheets and kept in costs and costs[kept] + WRONG_NUMBER > sheets[0].cost else kept
+
+
+def choice_without(found, two, alone, events):
+    """Which sheet is to be kept if no slip of the whole sheet repairs the record: 'repair', that of the first repair; 'numbers', that with right numbers;
+    'open' where that is not known; or none. A repair is ahead of what costs a wrong number more, and of those that say less; and so are the numbers alone
+    of what costs more."""
     costs = [it.cost for it in [*found[:1], *two[:1]]]
     if alone and all(alone.cost + WRONG_NUMBER <= cost for cost in costs):
         return "numbers" if alone.dealt else "open"
@@ -214,9 +246,14 @@ def choice(found, two, alone, events):
     return "repair" if all(found[0].cost + WRONG_NUMBER <= it.cost for it in rivals) else None
 
 
-def likely_repair(found, two, events, listed, rules=ENGLISH):
+def likely_repair(found, two, events, listed, rules=ENGLISH, sheets=()):
     """The first of the repairs, if it is to be kept."""
-    return found[0] if choice(found, two, with_numbers(events, listed, rules), events) == "repair" else None
+    return found[0] if choice(found, two, with_numbers(events, listed, rules), events, sheets) == "repair" else None
+
+
+def likely_sheet(found, two, events, listed, rules=ENGLISH, sheets=()):
+    """The first of the slips of the whole sheet, if the sheet without it is to be kept."""
+    return sheets[0] if choice(found, two, with_numbers(events, listed, rules), events, sheets) == "sheet" else None
 
 
 def is_of_amount(change, events):
@@ -227,9 +264,9 @@ def is_of_amount(change, events):
 
 
 def amount_repair(found, events, listed, rules=ENGLISH):
-    """The first of the repairs, if it is one of a bonus or a penalty, and costs less than correcting only the numbers."""
+    """The first of the repairs, if it is one of a bonus or a penalty, and costs less than correcting only the numbers, where that may make a game."""
     alone, told = with_numbers(events, listed, rules), [it for it in found if it.dealt]
-    good = alone and told and is_of_amount(told[0].change, events) and told[0].cost < alone.cost
+    good = told and is_of_amount(told[0].change, events) and (not alone or told[0].cost < alone.cost)
     return told[0] if good else None
 
 
@@ -239,9 +276,11 @@ def suggested_text(words, repair, events, nicks="AB"):
     return f"{words}: {what_changes(repair.change, repair.right(), own, nicks)}\n{evidence(repair, own)}"
 
 
-def repair_text(events, listed, rules=ENGLISH, nicks="AB", number=LINES):
-    """All lines behind the verdict line of an illegal record, but for those about two changes."""
+def repair_text(events, listed, rules=ENGLISH, nicks="AB", number=LINES, game=None):
+    """All lines behind the verdict line of an illegal record, but for those about two changes. Slips of the whole sheet are those of its text."""
     found, own, alone, told = repairs(events, listed, rules), numbered(events), with_numbers(events, listed, rules), []
+    if alone and alone.unlisted > WORDS_OF_SLIPS:
+        told.append((-1, 0, f"{alone.unlisted} words of the plays are not in the list: perhaps the game was played with another word list\n"))
     if alone:
         text = "with only the numbers corrected it " + ("is a game\n" if alone.dealt else "may be a game: no deal was found\n")
         told.append((alone.cost, 0, text + evidence(alone, own)))
@@ -250,6 +289,9 @@ def repair_text(events, listed, rules=ENGLISH, nicks="AB", number=LINES):
         more = f" (or with {', '.join(others)})" if others else ""
         text = what_changes(line[0].change, line[0].right(), own, nicks) + more + "\n" + evidence(line[0], own)
         told.append((line[0].cost, len(told) + 1, text))
+    for sheet in of_text(game, listed, rules) if game else []:
+        text = sheet.said + ("\n" if sheet.dealt else " (no deal was found)\n") + sheet_text(sheet)
+        told.append((sheet.cost, len(told) + number, text))
     text = "".join(it for _, _, it in sorted(told))
     if not any(it.dealt for it in found):
         known = all(it.dealt for it in found)

@@ -173,14 +173,14 @@ def right_event(game, event, following, listed):
 
 
 def wrong_numbers(change, changed, right):
-    """How many scores and totals of a sheet are wrong. A total that carries on an earlier mistake is not; a line that is missing has its right
-    score, and the total before the next line is with it."""
+    """How many scores and totals of a sheet are wrong. A total that carries on an earlier mistake is not, nor is one that is right although the line
+    before it gives another; a line that is missing has its right score, and the total before the next line is with it."""
     wrong, had = 0, [0, 0]
     for place, (one, other) in enumerate(zip(changed, right)):
         if change.adds(place):
             had[one.player] += other.score
         else:
-            wrong += (one.score != other.score) + (one.total != had[one.player] + one.score)
+            wrong += (one.score != other.score) + (one.total not in (had[one.player] + one.score, other.total))
             had[one.player] = one.total
     return wrong
 

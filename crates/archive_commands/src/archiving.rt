@@ -24,8 +24,8 @@ use game_page::Maker;
 use lex_check::Checked;
 use lost_inputs::RunInputs;
 use name_texts::Encoding;
-use record_repairs::Repair;
 use ref_tiles::Rules;
+use repair_answers::Likely;
 use std::alloc::{AllocError, Global};
 use std::io::{self, BufReader, Read};
 use std::rt::{Files, Runtime};
@@ -360,7 +360,7 @@ fn fields_with<'n>(
     entry: &mut Entry,
     text: &[u8],
 ) -> Result<Fields<'n>, AllocError> {
-    let likely = likely_if(alloc, rules, pair, repairs, entry)?;
+    let likely = likely_if(alloc, rules, pair, repairs, entry, text)?;
     fields_of(alloc, repairs, name, entry, likely.as_ref(), text)
 }
 
@@ -370,7 +370,7 @@ pub fn fields_of<'n>(
     repairs: bool,
     name: &'n str,
     entry: &Entry,
-    likely: Option<&Repair>,
+    likely: Option<&Likely>,
     text: &[u8],
 ) -> Result<Fields<'n>, AllocError> {
     let encoding = Encoding::of(text);

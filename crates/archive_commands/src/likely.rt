@@ -6,24 +6,24 @@ use game_case::Entry;
 use gcg_read::Record;
 use lex_check::Checked;
 use name_texts::Encoding;
-use record_repairs::Repair;
 use ref_tiles::Rules;
-use repair_answers::likely_in;
-use repair_words::{push_change_of, push_numbers};
+use repair_answers::{Likely, likely_in};
+use repair_lines::{push_likely_change, push_likely_numbers};
 use std::alloc::{AllocError, Global};
 
-/// The likely repair of a game, if the line has one.
+/// The likely repair of a game, given its text, if the line has one.
 pub fn likely_if(
     alloc: Global,
     rules: &Rules,
     pair: &Checked<'_>,
     repairs: bool,
     entry: &mut Entry,
-) -> Result<Option<Repair>, AllocError>
+    text: &[u8],
+) -> Result<Option<Likely>, AllocError>
     ensures { OnOk result (entry.new ≡ entry.old) }
 {
     if repairs {
-        likely_in(alloc, rules, pair, entry)
+        likely_in(alloc, rules, pair, entry, text)
     } else {
         Ok(None)
     }
@@ -33,13 +33,13 @@ pub fn likely_if(
 fn said_of(
     alloc: Global,
     record: &Record,
-    repair: &Repair,
+    likely: &Likely,
     encoding: Encoding,
 ) -> Result<LikelyFields, AllocError> {
     let mut change = Vec::new(alloc);
-    push_change_of(&mut change, record, repair)?;
+    push_likely_change(&mut change, record, likely)?;
     let mut numbers = Vec::new(alloc);
-    push_numbers(&mut numbers, record, repair)?;
+    push_likely_numbers(&mut numbers, record, likely)?;
     Ok(LikelyFields {
         change: Some(encoding.text_of(alloc, change.as_slice())?),
         numbers_right: Some(encoding.text_of(alloc, numbers.as_slice())?),
@@ -50,11 +50,11 @@ fn said_of(
 pub fn likely_fields(
     alloc: Global,
     record: &Record,
-    likely: Option<&Repair>,
+    likely: Option<&Likely>,
     encoding: Encoding,
 ) -> Result<LikelyFields, AllocError> {
     match likely {
-        Some(repair) => said_of(alloc, record, repair, encoding),
+        Some(likely) => said_of(alloc, record, likely, encoding),
         None => Ok(LikelyFields::NONE),
     }
 }

@@ -16,9 +16,9 @@ use lex_check::Checked;
 use lost_inputs::RunInputs;
 use page_names::push_page_name;
 use page_pieces::PageText;
-use page_words::{Sentences, sentences_of};
-use record_repairs::Repair;
+use page_words::sentences_of;
 use ref_tiles::Rules;
+use repair_answers::Likely;
 use std::alloc::{AllocError, Global};
 use std::fs;
 use std::io::{self, Read};
@@ -106,7 +106,7 @@ impl<'a> Pages<'a> {
         pair: &Checked<'_>,
         name: &str,
         case: &Case,
-        likely: Option<&Repair>,
+        likely: Option<&Likely>,
     ) -> Result<PageField, AllocError>
         requires { HasItsWalk rules.now (list_in pair.now) case.now }
     {
@@ -120,14 +120,20 @@ impl<'a> Pages<'a> {
             rules,
             pair,
             case,
-            likely,
+            likely: likely.and_then(|likely| likely.as_change()),
             up: Some(folders_of(file.as_str())),
             maker: &self.maker,
         };
         if let Some(shown) = shown_of(alloc, &contents)? {
             let explanation = shown.explanation.as_ref();
-            let Sentences { reason, likely } = sentences_of(alloc, case, explanation, likely)?;
-            push_page(&mut self.page, &shown, reason.as_slice(), likely.as_slice())?;
+            let said = sentences_of(alloc, rules, pair, case, explanation, likely)?;
+            push_page(
+                &mut self.page,
+                &shown,
+                said.reason.as_slice(),
+                said.likely.as_slice(),
+                said.lead.as_slice(),
+            )?;
         }
         let path = path_in(alloc, self.folder, file.as_str())?;
         if self.is_input(rt, name, path.as_str()) {
@@ -181,11 +187,11 @@ fn likely_by(
     pair: &Checked<'_>,
     repairs: bool,
     case: &mut Case,
-) -> Result<Option<Repair>, AllocError>
+) -> Result<Option<Likely>, AllocError>
     ensures { OnOk result (case.new ≡ case.old) }
 {
     match &mut case.read {
-        Ok(entry) => likely_if(alloc, rules, pair, repairs, entry),
+        Ok(entry) => likely_if(alloc, rules, pair, repairs, entry, case.text.as_slice()),
         Err(_) => Ok(None),
     }
 }
@@ -196,7 +202,7 @@ fn fields_in<'n>(
     repairs: bool,
     name: &'n str,
     case: &Case,
-    likely: Option<&Repair>,
+    likely: Option<&Likely>,
 ) -> Result<Fields<'n>, AllocError> {
     match &case.read {
         Ok(entry) => fields_of(alloc, repairs, name, entry, likely, case.text.as_slice()),

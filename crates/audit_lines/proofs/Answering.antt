@@ -8,29 +8,31 @@ use Rattle.call_stages.specs.Stages.{IsRead}
 use Rattle.game_case.specs.declared.audits.Audit.{Audit}
 use Rattle.game_case.specs.Auditing.{IsAuditOfRecord}
 use Rattle.audit_lines.specs.declared.answers.AuditAnswer.{AuditAnswer}
-use Rattle.audit_lines.specs.Told.{stop_of, AreTold}
+use Rattle.repair_answers.specs.Amounts.{IsAmountOnSheet}
+use Rattle.audit_lines.specs.Told.{AreTold}
 use Rattle.audit_lines.specs.Numbers.{told_number, told_numbers}
 use Rattle.audit_lines.specs.Answers.{IsAuditAnswer}
 use Rattle.audit_lines.proofs.ToldNumbers.{audit_told}
 
 -- the answer by the numbers that were found
 by_numbers : (rules : Rules) (list : List (List ℕ)) (text : List ℕ) (a : AuditAnswer) → LinesRise → IsAuditOfRecord rules list text a.audit
-    → a.numbers.items ≡ flat_map (told_number (stop_of a.audit.entry.finding) a.audit.entry.record.events) a.audit.wrong.items → IsAuditAnswer rules list text a
-by_numbers rules list text a rises is same =
-    let stop = stop_of a.audit.entry.finding in
+    → a.numbers.items ≡ flat_map (told_number a.audit.entry.record.events) a.audit.wrong.items → IsAmountOnSheet rules list text a.amount → IsAuditAnswer rules list text a
+by_numbers rules list text a rises is same amount =
     let right = a.audit.entry.record.events in
     record {
       audit = is;
       told =
-          subst (AreTold rules list stop is.written.events right) (sym same)
-          (audit_told rules list stop is.written.events right a.audit.wrong.items (rises text is.written is.means) is.audit.audited);
+          subst (AreTold rules list is.written.events right) (sym same)
+          (audit_told rules list is.written.events right a.audit.wrong.items (rises text is.written is.means) is.audit.audited);
+      amount = amount;
     }
 
 pub answered : (rules : Rules) (list : List (List ℕ)) (text : List ℕ) (audit : Audit) (a : AuditAnswer) → LinesRise → IsAuditOfRecord rules list text audit → a.audit ≡ audit
-    → a.numbers.items ≡ told_numbers audit → IsAuditAnswer rules list text a
+    → a.numbers.items ≡ told_numbers audit → IsAmountOnSheet rules list audit.text.items a.amount → IsAuditAnswer rules list text a
 unfolding told_numbers
-answered rules list text audit a rises is same numbers =
+answered rules list text audit a rises is same numbers amount =
     by_numbers rules list text a rises (subst (IsAuditOfRecord rules list text) (sym same) is) (numbers ∙ ap told_numbers (sym same))
+    (subst (λ (t : List ℕ). IsAmountOnSheet rules list t a.amount) is.kept amount)
 
 -- an input that was read, and a larger meaning of it
 pub read_on : {A B : Type 0} (limit : ℕ) (old new : Device) (Means : List ℕ → A → Type 0) (More : List ℕ → B → Type 0) (a : A) (b : B) → IsRead limit old new Means (Ok a)

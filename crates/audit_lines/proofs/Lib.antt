@@ -1,4 +1,3 @@
 pub mod ReadBack
 pub mod ToldNumbers
 pub mod Answering
-pub mod LineTexts

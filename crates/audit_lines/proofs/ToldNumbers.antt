@@ -1,5 +1,5 @@
 -- The numbers of the answer are the wrong ones, each with the event on its line.
-use Rattle.std.proofs.Common.{◌≡◌, inl, inr, ℕ, ℤ, ◌<◌, ◌+ℤ◌, nat_lt, Bool, true, false, List, [], ◌∷◌, ◌++◌, length, get_or, slice_get, Option, Some, None, if◌then◌else◌, refl, sym, ap, ◌∙◌, subst, append-nil, arith, AllPairs}
+use Rattle.std.proofs.Common.{◌≡◌, inl, inr, ℕ, ℤ, ◌<◌, ◌+ℤ◌, ◌||◌, nat_lt, Bool, true, false, List, [], ◌∷◌, ◌++◌, length, get_or, slice_get, Option, Some, None, if◌then◌else◌, refl, sym, ap, ◌∙◌, subst, append-nil, arith, AllPairs}
 use Rattle.std.specs.Prelude.{min}
 use Rattle.std.specs.List.{flat_map, range_with_len, position_or_len, position}
 use Rattle.std.specs.Ordering.{int_eq}
@@ -17,10 +17,10 @@ use Rattle.game_sheets.specs.declared.wrong_numbers.WrongNumber.TheVariants as w
 use Rattle.game_sheets.specs.Auditing.{IsAudited}
 use Rattle.game_sheets.specs.Corrections.{AreRenumbered}
 use Rattle.game_sheets.specs.LastTotals.{last_total}
-use Rattle.game_sheets.specs.WrongNumbers.{had_before, wrong_score, wrong_sum, wrong_of, wrong_at, wrong_lines, wrong_total_of, wrong_total, wrong_totals}
+use Rattle.game_sheets.specs.WrongNumbers.{had_before, known_total, is_right_sum, wrong_score, wrong_sum, wrong_of, wrong_at, wrong_lines, is_told, wrong_total_of, wrong_total, wrong_totals}
 use Rattle.audit_lines.specs.declared.told.ToldNumber.{ToldNumber}
 use Rattle.audit_lines.specs.declared.told.ToldNumber.TheVariants as told
-use Rattle.audit_lines.specs.Told.{right_total, told_score, told_sum, told_of, told_at, told_lines, told_total_of, told_totals, AreTold}
+use Rattle.audit_lines.specs.Told.{told_score, told_sum, told_of, told_at, told_lines, told_total_of, told_total, told_totals, AreTold}
 use Rattle.audit_lines.specs.Numbers.{score_of, score_on, sum_of, sum_on, told_number}
 
 -- ---- the event on a line
@@ -68,10 +68,10 @@ score_there : (right : List Event) (place : ℕ) (e r : Event) → place_of_line
 score_there right place e r there of_r player written other =
     ap (score_on right e.line written other) there ∙ ap (score_of place e.line written other) of_r ∙ ap (λ (p : Seat). told.Score place e.line p written other ∷ []) player
 
-sum_there : (stop : Option ℕ) (right : List Event) (place : ℕ) (e r : Event) → place_of_line right e.line ≡ Some place → slice_get right place ≡ Some r → r.player ≡ e.player
-    → (written sum : ℤ) → sum_on stop right e.line written sum (place_of_line right e.line) ≡ told.Sum place e.line e.player written sum (right_total stop r) ∷ []
-sum_there stop right place e r there of_r player written sum =
-    ap (sum_on stop right e.line written sum) there ∙ ap (sum_of stop place e.line written sum) of_r ∙ ap (λ (p : Seat). told.Sum place e.line p written sum (right_total stop r) ∷ []) player
+sum_there : (right : List Event) (place : ℕ) (e r : Event) → place_of_line right e.line ≡ Some place → slice_get right place ≡ Some r → r.player ≡ e.player
+    → (written sum : ℤ) (due : Option ℤ) → sum_on right e.line written sum due (place_of_line right e.line) ≡ told.Sum place e.line e.player written sum due ∷ []
+sum_there right place e r there of_r player written sum due =
+    ap (sum_on right e.line written sum due) there ∙ ap (sum_of place e.line written sum due) of_r ∙ ap (λ (p : Seat). told.Sum place e.line p written sum due ∷ []) player
 
 -- one number or none
 one_or_none : (told_as : WrongNumber → List ToldNumber) (good : Bool) (number : WrongNumber) (told : ToldNumber) → told_as number ≡ told ∷ []
@@ -79,24 +79,25 @@ one_or_none : (told_as : WrongNumber → List ToldNumber) (good : Bool) (number 
 one_or_none told_as true number told is = refl
 one_or_none told_as false number told is = append-nil (told_as number) ∙ is
 
-both_there : (stop : Option ℕ) (right : List Event) (place : ℕ) (e r : Event) (had : ℤ) → place_of_line right e.line ≡ Some place → slice_get right place ≡ Some r
-    → r.player ≡ e.player → flat_map (told_number stop right) (wrong_score e r ++ wrong_sum had e) ≡ told_score place e r ++ told_sum stop place had e r
-both_there stop right place e r had there of_r player =
-    let as_told = told_number stop right in
-    flat_map-append as_told (wrong_score e r) (wrong_sum had e)
-    ∙ ap (λ (l : List ToldNumber). l ++ flat_map as_told (wrong_sum had e))
+both_there : (right : List Event) (place : ℕ) (e r : Event) (had : ℤ) (due : Option ℤ) → place_of_line right e.line ≡ Some place → slice_get right place ≡ Some r
+    → r.player ≡ e.player → flat_map (told_number right) (wrong_score e r ++ wrong_sum had e due) ≡ told_score place e r ++ told_sum place had e due
+both_there right place e r had due there of_r player =
+    let as_told = told_number right in
+    let sum = had +ℤ e.score in
+    flat_map-append as_told (wrong_score e r) (wrong_sum had e due)
+    ∙ ap (λ (l : List ToldNumber). l ++ flat_map as_told (wrong_sum had e due))
     (one_or_none as_told (int_eq e.score r.score) (wrong.Score e.line e.score r.score) (told.Score place e.line e.player e.score r.score) (score_there right place e r there of_r player e.score r.score))
     ∙ ap (λ (l : List ToldNumber). told_score place e r ++ l)
-    (one_or_none as_told (int_eq e.total (had +ℤ e.score)) (wrong.Sum e.line e.total (had +ℤ e.score)) (told.Sum place e.line e.player e.total (had +ℤ e.score) (right_total stop r)) (sum_there stop right place e r there of_r player e.total (had +ℤ e.score)))
+    (one_or_none as_told (is_right_sum e.total sum due) (wrong.Sum e.line e.total sum due) (told.Sum place e.line e.player e.total sum due) (sum_there right place e r there of_r player e.total sum due))
 
 told_here : (stop : Option ℕ) (written right : List Event) → AreRenumbered written right → Rise right → (place : ℕ) (a b : Option Event) → slice_get written place ≡ a
-    → slice_get right place ≡ b → flat_map (told_number stop right) (wrong_of written place a b) ≡ told_of stop written place a b
+    → slice_get right place ≡ b → flat_map (told_number right) (wrong_of stop written place a b) ≡ told_of stop written place a b
 told_here stop written right same rise place None b of_a of_b = refl
 told_here stop written right same rise place (Some e) None of_a of_b = refl
 told_here stop written right same rise place (Some e) (Some r) of_a of_b =
     let like = same.each place e r of_a of_b in
     let there = subst (λ (line : ℕ). place_of_line right line ≡ Some place) like.line (place_there right place r rise of_b) in
-    both_there stop right place e r (had_before written e.player place) there of_b like.player
+    both_there right place e r (had_before written e.player place) (known_total stop r) there of_b like.player
 
 -- ---- all lines, and the totals
 
@@ -106,23 +107,25 @@ each_list f g h each [] = refl
 each_list f g h each (k ∷ ks) = flat_map-append g (f k) (flat_map f ks) ∙ ap (λ l. l ++ flat_map g (flat_map f ks)) (each k) ∙ ap (λ l. h k ++ l) (each_list f g h each ks)
 
 pub lines_told : (stop : Option ℕ) (written right : List Event) → AreRenumbered written right → Rise right
-    → flat_map (told_number stop right) (wrong_lines written right) ≡ told_lines stop written right
+    → flat_map (told_number right) (wrong_lines stop written right) ≡ told_lines stop written right
 unfolding wrong_lines
 lines_told stop written right same rise =
-    each_list (wrong_at written right) (told_number stop right) (told_at stop written right)
+    each_list (wrong_at stop written right) (told_number right) (told_at stop written right)
     (λ place. told_here stop written right same rise place (slice_get written place) (slice_get right place) refl refl)
     (range_with_len 0 (min (length written) (length right)))
 
-total_told : (stop : Option ℕ) (right : List Event) (player : Seat) (a b : Option ℤ) → flat_map (told_number stop right) (wrong_total_of player a b) ≡ told_total_of player a b
-total_told stop right player None b = refl
-total_told stop right player (Some a) None = refl
-total_told stop right player (Some a) (Some b) = one_or_none (told_number stop right) (int_eq a b) (wrong.Total player a b) (told.Total player a b) refl
+total_told : (right : List Event) (player : Seat) (there : Bool) (a b : Option ℤ) → flat_map (told_number right) (wrong_total_of player there a b) ≡ told_total_of player there a b
+total_told right player there None b = refl
+total_told right player there (Some a) None = refl
+total_told right player there (Some a) (Some b) = one_or_none (told_number right) (there || int_eq a b) (wrong.Total player a b) (told.Total player a b) refl
 
-pub totals_told : (stop : Option ℕ) (written right : List Event) → flat_map (told_number stop right) (wrong_totals written right) ≡ told_totals written right
-totals_told stop written right =
-    flat_map-append (told_number stop right) (wrong_total First written right) (wrong_total Second written right)
-    ∙ ap (λ (l : List ToldNumber). l ++ flat_map (told_number stop right) (wrong_total Second written right)) (total_told stop right First (last_total First written) (last_total First right))
-    ∙ ap (λ (l : List ToldNumber). told_total_of First (last_total First written) (last_total First right) ++ l) (total_told stop right Second (last_total Second written) (last_total Second right))
+pub totals_told : (written right : List Event) → flat_map (told_number right) (wrong_totals (wrong_lines None written right) written right) ≡ told_totals written right
+totals_told written right =
+    let lines : List WrongNumber = wrong_lines None written right in
+    flat_map-append (told_number right) (wrong_total First lines written right) (wrong_total Second lines written right)
+    ∙ ap (λ (l : List ToldNumber). l ++ flat_map (told_number right) (wrong_total Second lines written right))
+    (total_told right First (is_told First right lines) (last_total First written) (last_total First right))
+    ∙ ap (λ (l : List ToldNumber). told_total First written right ++ l) (total_told right Second (is_told Second right lines) (last_total Second written) (last_total Second right))
 
 -- ---- the numbers of an audit
 
@@ -130,20 +133,27 @@ same_events : (rules : Rules) (list : List (List ℕ)) (written right : List Eve
 same_events rules list written right wrong (inl whole) = whole.correction.renumbered
 same_events rules list written right wrong (inr part) = part.stops.before.renumbered
 
-by_audit : (rules : Rules) (list : List (List ℕ)) (stop : Option ℕ) (written right : List Event) (wrong : List WrongNumber) → Rise right → IsAudited rules list written right wrong
-    → AreTold rules list stop written right (flat_map (told_number stop right) wrong)
-by_audit rules list stop written right wrong rise (inl whole) =
-    let told = told_number stop right in
-    inl (
-      whole.correction,
-      ap (flat_map told) whole.all ∙ flat_map-append told (wrong_lines written right) (wrong_totals written right)
-          ∙ ap (λ (l : List ToldNumber). l ++ flat_map told (wrong_totals written right)) (lines_told stop written right whole.correction.renumbered rise)
-          ∙ ap (λ (l : List ToldNumber). told_lines stop written right ++ l) (totals_told stop written right),
-    )
-by_audit rules list stop written right wrong rise (inr part) =
-    inr (part.none, ap (flat_map (told_number stop right)) part.all ∙ lines_told stop written right part.stops.before.renumbered rise)
+by_audit : (rules : Rules) (list : List (List ℕ)) (written right : List Event) (wrong : List WrongNumber) → Rise right → IsAudited rules list written right wrong
+    → AreTold rules list written right (flat_map (told_number right) wrong)
+by_audit rules list written right wrong rise (inl whole) =
+    let told = told_number right in
+    inl (record {
+      correction = whole.correction;
+      all = ap (flat_map told) whole.all ∙ flat_map-append told (wrong_lines None written right) (wrong_totals (wrong_lines None written right) written right)
+          ∙ ap (λ (l : List ToldNumber). l ++ flat_map told (wrong_totals (wrong_lines None written right) written right)) (lines_told None written right whole.correction.renumbered rise)
+          ∙ ap (λ (l : List ToldNumber). told_lines None written right ++ l) (totals_told written right);
+    })
+by_audit rules list written right wrong rise (inr part) =
+    inr (
+    record {
+      line = part.line;
+      why = part.why;
+      stops = part.stops;
+      none = part.none;
+      all = ap (flat_map (told_number right)) part.all ∙ lines_told (Some part.line) written right part.stops.before.renumbered rise;
+    })
 
-pub audit_told : (rules : Rules) (list : List (List ℕ)) (stop : Option ℕ) (written right : List Event) (wrong : List WrongNumber) → Rise written → IsAudited rules list written right wrong
-    → AreTold rules list stop written right (flat_map (told_number stop right) wrong)
-audit_told rules list stop written right wrong rise audited =
-    by_audit rules list stop written right wrong (rise_too written right (same_events rules list written right wrong audited) rise) audited
+pub audit_told : (rules : Rules) (list : List (List ℕ)) (written right : List Event) (wrong : List WrongNumber) → Rise written → IsAudited rules list written right wrong
+    → AreTold rules list written right (flat_map (told_number right) wrong)
+audit_told rules list written right wrong rise audited =
+    by_audit rules list written right wrong (rise_too written right (same_events rules list written right wrong audited) rise) audited

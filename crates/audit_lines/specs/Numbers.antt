@@ -8,7 +8,6 @@ use Rattle.game_sheets.specs.declared.wrong_numbers.WrongNumber.TheVariants as w
 use Rattle.game_case.specs.declared.audits.Audit.{Audit}
 use Rattle.audit_lines.specs.declared.told.ToldNumber.{ToldNumber}
 use Rattle.audit_lines.specs.declared.told.ToldNumber.TheVariants as told
-use Rattle.audit_lines.specs.Told.{stop_of, right_total}
 
 -- a score, by the event on its line
 abbrev pub score_of : (place line : ℕ) → (written right : ℤ) → Option Event → List ToldNumber
@@ -20,19 +19,19 @@ score_on events line written right None = []
 score_on events line written right (Some place) = score_of place line written right (slice_get events place)
 
 -- a sum, by the event on its line
-abbrev pub sum_of : (stop : Option ℕ) → (place line : ℕ) → (written sum : ℤ) → Option Event → List ToldNumber
-sum_of stop place line written sum None = []
-sum_of stop place line written sum (Some e) = told.Sum place line e.player written sum (right_total stop e) ∷ []
+abbrev pub sum_of : (place line : ℕ) → (written sum : ℤ) → (right : Option ℤ) → Option Event → List ToldNumber
+sum_of place line written sum right None = []
+sum_of place line written sum right (Some e) = told.Sum place line e.player written sum right ∷ []
 
-abbrev pub sum_on : (stop : Option ℕ) → List Event → (line : ℕ) → (written sum : ℤ) → (place : Option ℕ) → List ToldNumber
-sum_on stop events line written sum None = []
-sum_on stop events line written sum (Some place) = sum_of stop place line written sum (slice_get events place)
+abbrev pub sum_on : List Event → (line : ℕ) → (written sum : ℤ) → (right : Option ℤ) → (place : Option ℕ) → List ToldNumber
+sum_on events line written sum right None = []
+sum_on events line written sum right (Some place) = sum_of place line written sum right (slice_get events place)
 
-abbrev pub told_number : (stop : Option ℕ) → List Event → WrongNumber → List ToldNumber
-told_number stop events (wrong.Score line written right) = score_on events line written right (place_of_line events line)
-told_number stop events (wrong.Sum line written sum) = sum_on stop events line written sum (place_of_line events line)
-told_number stop events (wrong.Total player written right) = told.Total player written right ∷ []
+abbrev pub told_number : List Event → WrongNumber → List ToldNumber
+told_number events (wrong.Score line written right) = score_on events line written right (place_of_line events line)
+told_number events (wrong.Sum line written sum right) = sum_on events line written sum right (place_of_line events line)
+told_number events (wrong.Total player written right) = told.Total player written right ∷ []
 
 -- all of them, in their order
 unfoldable pub told_numbers : Audit → List ToldNumber
-told_numbers a = flat_map (told_number (stop_of a.entry.finding) a.entry.record.events) a.wrong.items
+told_numbers a = flat_map (told_number a.entry.record.events) a.wrong.items

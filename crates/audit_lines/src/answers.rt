@@ -6,6 +6,7 @@ ghost use Rattle.lex_check.specs.Pairs.{list_in};
 ghost use Rattle.call_stages.specs.Stages.{IsRead};
 ghost use Rattle.audit_lines.specs.Answers.{IsAuditAnswerOf};
 ghost use Rattle.audit_lines.specs.Numbers.{told_numbers};
+ghost use Rattle.repair_answers.specs.Amounts.{IsAmountOnSheet};
 
 use crate::told::{ToldNumber, told_numbers};
 use call_stages::{Decision, RunFault};
@@ -14,6 +15,7 @@ use game_case::{Audit, audit_sheet};
 use gcg_read::law_of_lines;
 use lex_check::Checked;
 use ref_tiles::Rules;
+use repair_answers::{SheetAmount, amount_on_sheet};
 use std::alloc::{AllocError, Global};
 
 /// The answer to an audit of one sheet.
@@ -23,15 +25,29 @@ pub struct AuditAnswer {
     pub audit: Audit,
     /// The numbers that are wrong, each with its event: scores and sums in the order of the sheet, and last totals.
     pub numbers: Vec<ToldNumber>,
+    /// A bonus or a penalty that would explain them, if one was found.
+    pub amount: Option<SheetAmount>,
 }
 
 /// The answer of an audit.
-fn answer_of(alloc: Global, audit: Audit) -> Result<AuditAnswer, AllocError>
+fn answer_of(
+    alloc: Global,
+    rules: &Rules,
+    pair: &Checked<'_>,
+    audit: Audit,
+) -> Result<AuditAnswer, AllocError>
     ensures audit { IfOk result (λ a. a.audit ≡ audit) }
     ensures numbers { IfOk result (λ a. a.numbers.items ≡ told_numbers audit) }
+    ensures amount { IfOk result (λ a. IsAmountOnSheet rules.now (list_in pair.now) audit.text.items a.amount) }
 {
     let numbers = told_numbers(alloc, &audit)?;
-    Ok(AuditAnswer { audit, numbers })
+    let text = audit.text.as_slice();
+    let amount = amount_on_sheet(alloc, rules, pair, text, audit.wrong.as_slice())?;
+    Ok(AuditAnswer {
+        audit,
+        numbers,
+        amount,
+    })
 }
 
 /// Reads the record of a game and audits it, as [`audit_sheet`] does: which numbers are wrong, each with its event and with what is right, and the
@@ -53,7 +69,7 @@ pub fn answer_audit<G: Input>(
 {
     law_of_lines();
     match audit_sheet(alloc, rules, pair, game)? {
-        Ok(audit) => Ok(Ok(answer_of(alloc, audit)?)),
+        Ok(audit) => Ok(Ok(answer_of(alloc, rules, pair, audit)?)),
         Err(decision) => Ok(Err(decision)),
     }
 }

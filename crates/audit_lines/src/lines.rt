@@ -2,26 +2,43 @@
 ghost use Rattle.std.specs.Prelude.{◌≡◌, ◌++◌, ◌∷◌, [], OnOk, codes, slice_get};
 ghost use Rattle.std.specs.Fmt.{signed_decimal};
 ghost use Rattle.gcg_read.specs.Players.{player_of};
-ghost use Rattle.audit_lines.specs.Lines.{should_be, right_text, both_text, line_text, numbers_text, wrong_text, end_text, event_text, on_the_sheet, other_total, corrected_total, told_text, told_texts, audit_text};
+ghost use Rattle.audit_lines.specs.Lines.{should_be, right_text, both_text, line_text, numbers_text, wrong_text, end_text, on_line_text, event_text, told_text, told_texts, audit_text};
 ghost use Rattle.game_case.specs.Explaining.{finding_line};
 
 use crate::kinds::push_kind;
+use crate::leads::push_lead;
 use crate::told::{ToldNumber, told_numbers};
 use decimal_text::push_number;
 use game_case::{Audit, Finding, finding_line};
+use game_sheets::due;
 use gcg_read::{Players, Record, Seat};
 use std::alloc::{AllocError, Global};
 
-/// Appends the lines of an audit: one for each wrong number, and the verdict line of the corrected record.
+/// Appends the lines of an audit: one for each wrong number, what is said of a bonus or a penalty that would explain them, the verdict line of the
+/// corrected record, and who is ahead.
 ///
 /// It fails only if memory runs out.
 #[tactic(auto, unfolding(crate::specs::Lines::audit_text))]
-pub fn push_audit(alloc: Global, text: &mut Vec<u8>, audit: &Audit) -> Result<(), AllocError>
-    ensures { OnOk result (text.new.items ≡ text.old.items ++ audit_text audit.now) }
+pub fn push_audit(
+    alloc: Global,
+    text: &mut Vec<u8>,
+    audit: &Audit,
+    amount: &[u8],
+) -> Result<(), AllocError>
+    ensures { OnOk result (text.new.items ≡ text.old.items ++ audit_text audit.now amount.now) }
 {
     let numbers = told_numbers(alloc, audit)?;
     push_numbers(text, &audit.entry.record, numbers.as_slice())?;
-    push_finding(alloc, text, &audit.entry.finding)
+    text.extend_from_slice(amount)?;
+    push_finding(alloc, text, &audit.entry.finding)?;
+    let players = &audit.entry.record.players;
+    push_lead(
+        text,
+        &audit.entry.finding,
+        players,
+        &audit.ahead,
+        &audit.written,
+    )
 }
 
 /// Appends the lines of the wrong numbers.
@@ -38,6 +55,23 @@ fn push_numbers(
     Ok(())
 }
 
+/// Appends the line of a wrong number of the event at a place.
+fn push_of_event(
+    text: &mut Vec<u8>,
+    record: &Record,
+    place: usize,
+    line: u32,
+    what: &[u8],
+    written: i32,
+    right: i32,
+) -> Result<(), AllocError>
+    ensures { OnOk result (text.new.items ≡ text.old.items ++ on_line_text line what.now written right (event_text record.now.players (slice_get record.now.events place))) }
+{
+    push_on_line(text, line, what, written, right)?;
+    push_event_at(text, record, place)?;
+    push_end(text)
+}
+
 /// Appends the line of a wrong number.
 fn push_told(text: &mut Vec<u8>, record: &Record, told: &ToldNumber) -> Result<(), AllocError>
     ensures { OnOk result (text.new.items ≡ text.old.items ++ told_text record.now.players record.now.events told.now) }
@@ -49,11 +83,7 @@ fn push_told(text: &mut Vec<u8>, record: &Record, told: &ToldNumber) -> Result<(
             written,
             right,
             ..
-        } => {
-            push_on_line(text, *line, b"score ", *written, *right)?;
-            push_event_at(text, record, *place)?;
-            push_end(text)
-        }
+        } => push_of_event(text, record, *place, *line, b"score ", *written, *right),
         ToldNumber::Sum {
             place,
             line,
@@ -62,8 +92,8 @@ fn push_told(text: &mut Vec<u8>, record: &Record, told: &ToldNumber) -> Result<(
             right,
             ..
         } => {
-            push_on_line(text, *line, b"sum ", *written, *sum)?;
-            push_sum_event(text, record, *place, *sum, *right)
+            let right = due(*sum, *right);
+            push_of_event(text, record, *place, *line, b"sum ", *written, right)
         }
         ToldNumber::Total {
             player,
@@ -71,22 +101,6 @@ fn push_told(text: &mut Vec<u8>, record: &Record, told: &ToldNumber) -> Result<(
             right,
         } => push_total(text, &record.players, *player, *written, *right),
     }
-}
-
-/// Appends the event of a wrong sum, its total on the corrected sheet, and the end of the line.
-#[tactic(auto, using(crate::proofs::LineTexts::three))]
-fn push_sum_event(
-    text: &mut Vec<u8>,
-    record: &Record,
-    place: usize,
-    sum: i32,
-    right: Option<i32>,
-) -> Result<(), AllocError>
-    ensures { OnOk result (text.new.items ≡ text.old.items ++ (event_text record.now.players (slice_get record.now.events place) ++ corrected_total sum right ++ end_text)) }
-{
-    push_event_at(text, record, place)?;
-    push_corrected(text, sum, right)?;
-    push_end(text)
 }
 
 /// Appends the line of a last total.
@@ -145,32 +159,6 @@ fn push_event_at(text: &mut Vec<u8>, record: &Record, place: usize) -> Result<()
             push_kind(text, &event.kind)
         }
     }
-}
-
-/// Appends the total on the corrected sheet, if it differs from the sum.
-fn push_corrected(text: &mut Vec<u8>, sum: i32, right: Option<i32>) -> Result<(), AllocError>
-    ensures { OnOk result (text.new.items ≡ text.old.items ++ corrected_total sum right) }
-{
-    match right {
-        Some(right) if right != sum => push_other_total(text, right),
-        _ => Ok(()),
-    }
-}
-
-/// Appends a total on the corrected sheet.
-fn push_other_total(text: &mut Vec<u8>, right: i32) -> Result<(), AllocError>
-    ensures { OnOk result (text.new.items ≡ text.old.items ++ other_total right) }
-{
-    push_on_the_sheet(text)?;
-    push_number(text, right)
-}
-
-/// Appends what comes before a total on the corrected sheet.
-#[tactic(auto, unfolding(crate::specs::Lines::on_the_sheet))]
-fn push_on_the_sheet(text: &mut Vec<u8>) -> Result<(), AllocError>
-    ensures { OnOk result (text.new.items ≡ text.old.items ++ on_the_sheet) }
-{
-    text.extend_from_slice(b"; on the corrected sheet ")
 }
 
 /// Appends what ends a line after its event.

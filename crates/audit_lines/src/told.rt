@@ -2,12 +2,10 @@
 ghost use Rattle.std.specs.Prelude.{◌≡◌, ◌++◌, IfOk, OnOk};
 ghost use Rattle.std.specs.List.{flat_map};
 ghost use Rattle.game_board.specs.Places.{place_of_line};
-ghost use Rattle.audit_lines.specs.Told.{stop_by, stop_of, right_total};
 ghost use Rattle.audit_lines.specs.Numbers.{score_on, sum_on, told_number, told_numbers};
 
-use call_stages::GameFault;
 use game_board::place_of_line;
-use game_case::{Audit, Finding};
+use game_case::Audit;
 use game_sheets::WrongNumber;
 use gcg_read::{Event, Seat};
 use std::alloc::{AllocError, Global};
@@ -28,7 +26,7 @@ pub enum ToldNumber {
         /// The score that the rules give.
         right: i32,
     },
-    /// A total is not the player's last total and the score, as they are written.
+    /// A total is neither the player's last total and the score, as they are written, nor the right one.
     Sum {
         /// The place of its event in the record, counted from 0.
         place: usize,
@@ -52,43 +50,6 @@ pub enum ToldNumber {
         /// The last total by the rules.
         right: i32,
     },
-}
-
-/// The line at which a correction stops, if it ends in this fault on a line.
-fn stop_by(line: u32, fault: &GameFault) -> Option<u32>
-    ensures { result ≡ stop_by line fault.now }
-{
-    match fault {
-        GameFault::Rule(_) => Some(line),
-        GameFault::RackTooBig | GameFault::TilesShort(_) | GameFault::NoDeal { .. } => None,
-    }
-}
-
-/// The line at which the correction of a sheet stops, by what is found of it: that of an event that the rules refuse even with its right
-/// numbers.
-fn stop_of(finding: &Finding) -> Option<u32>
-    ensures { result ≡ stop_of finding.now }
-{
-    match finding {
-        Finding::Illegal { line, fault } => stop_by(*line, fault),
-        Finding::NoGame | Finding::Legal { .. } | Finding::Unsettled => None,
-    }
-}
-
-/// The right total of an event, as far as the events are corrected.
-fn right_total(stop: Option<u32>, right: &Event) -> Option<i32>
-    ensures { result ≡ right_total stop right.now }
-{
-    match stop {
-        None => Some(right.total.value()),
-        Some(stop) => {
-            if right.line < stop {
-                Some(right.total.value())
-            } else {
-                None
-            }
-        }
-    }
 }
 
 /// Appends a wrong score, with the event on its line.
@@ -118,13 +79,13 @@ fn push_score(
 /// Appends a wrong sum, with the event on its line.
 fn push_sum(
     told: &mut Vec<ToldNumber>,
-    stop: Option<u32>,
     events: &[Event],
     line: u32,
     written: i32,
     sum: i32,
+    due: Option<i32>,
 ) -> Result<(), AllocError>
-    ensures { OnOk result (told.new.items ≡ told.old.items ++ sum_on stop events.now line written sum (place_of_line events.now line)) }
+    ensures { OnOk result (told.new.items ≡ told.old.items ++ sum_on events.now line written sum due (place_of_line events.now line)) }
 {
     let Some(place) = place_of_line(events, line) else {
         return Ok(());
@@ -136,7 +97,7 @@ fn push_sum(
         player: event.player,
         written,
         sum,
-        right: right_total(stop, event),
+        right: due,
     })?;
     Ok(())
 }
@@ -144,11 +105,10 @@ fn push_sum(
 /// Appends a wrong number, with its event.
 fn push_number(
     told: &mut Vec<ToldNumber>,
-    stop: Option<u32>,
     events: &[Event],
     wrong: &WrongNumber,
 ) -> Result<(), AllocError>
-    ensures { OnOk result (told.new.items ≡ told.old.items ++ told_number stop events.now wrong.now) }
+    ensures { OnOk result (told.new.items ≡ told.old.items ++ told_number events.now wrong.now) }
 {
     match wrong {
         WrongNumber::Score {
@@ -159,8 +119,9 @@ fn push_number(
         WrongNumber::Sum {
             line,
             written,
+            sum,
             right,
-        } => push_sum(told, stop, events, *line, *written, *right),
+        } => push_sum(told, events, *line, *written, *sum, *right),
         WrongNumber::Total {
             player,
             written,
@@ -179,14 +140,13 @@ fn push_number(
 /// Appends wrong numbers, each with its event.
 fn push_numbers(
     told: &mut Vec<ToldNumber>,
-    stop: Option<u32>,
     events: &[Event],
     numbers: &[WrongNumber],
 ) -> Result<(), AllocError>
-    ensures { OnOk result (told.new.items ≡ told.old.items ++ flat_map (told_number stop events.now) numbers.now) }
+    ensures { OnOk result (told.new.items ≡ told.old.items ++ flat_map (told_number events.now) numbers.now) }
 {
     for wrong in numbers {
-        push_number(told, stop, events, wrong)?;
+        push_number(told, events, wrong)?;
     }
     Ok(())
 }
@@ -199,7 +159,6 @@ pub fn told_numbers(alloc: Global, audit: &Audit) -> Result<Vec<ToldNumber>, All
     let mut told = Vec::new(alloc);
     push_numbers(
         &mut told,
-        stop_of(&audit.entry.finding),
         audit.entry.record.events.as_slice(),
         audit.wrong.as_slice(),
     )?;

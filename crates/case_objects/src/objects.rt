@@ -11,9 +11,9 @@ use game_facts::line_of;
 use game_rows::Walk;
 use gcg_read::Record;
 use lex_list::WordList;
-use record_repairs::Repair;
 use ref_tiles::Rules;
-use repair_json::{RepairObject, single_object};
+use repair_answers::Likely;
+use repair_json::{RepairObject, single_object, whole_object};
 use std::alloc::{AllocError, Global};
 use unread_lines::unread_lines;
 
@@ -39,7 +39,7 @@ fn push_entry(
     case: &Case,
     entry: &Entry,
     walk: &Walk,
-    likely: Option<&Repair>,
+    likely: Option<&Likely>,
     line: Option<u32>,
 ) -> Result<(), AllocError>
     requires { IsWalkOf rules.now list.now entry.now.record.events walk.now }
@@ -66,10 +66,11 @@ fn push_entry(
 fn likely_object(
     alloc: Global,
     record: &Record,
-    likely: Option<&Repair>,
+    likely: Option<&Likely>,
 ) -> Result<Option<RepairObject>, AllocError> {
     match likely {
-        Some(repair) => Ok(Some(single_object(alloc, record, repair)?)),
+        Some(Likely::Change(repair)) => Ok(Some(single_object(alloc, record, repair)?)),
+        Some(Likely::Sheet(repair)) => Ok(Some(whole_object(alloc, record, repair)?)),
         None => Ok(None),
     }
 }
@@ -84,7 +85,7 @@ pub fn case_text(
     rules: &Rules,
     list: &WordList,
     case: &Case,
-    likely: Option<&Repair>,
+    likely: Option<&Likely>,
     line: Option<u32>,
 ) -> Result<Vec<u8>, AllocError>
     requires { HasItsWalk rules.now list.now case.now }

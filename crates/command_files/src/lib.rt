@@ -9,7 +9,6 @@ mod files;
 mod folders;
 mod inputs;
 mod objects;
-mod racks;
 mod sources;
 mod telling;
 
@@ -26,7 +25,6 @@ pub use inputs::{
     open_inputs, open_lexicon, open_rules, refuse, rules_front, write, write_beside,
 };
 pub use objects::{refuse_in_json, told_in_json};
-pub use racks::rack_in_capitals;
 pub use sources::{
     SheetFile, Source, Words, open_sheet, open_source, open_words, sheet_of, shown, tell_others,
     unread_in,

@@ -7,8 +7,10 @@ use sheet_alignments::{Pair, Side, chosen_side};
 pub(crate) struct Before {
     /// How many events of the choice.
     pub(crate) place: usize,
-    /// How many items.
+    /// How many pairs that differ.
     pub(crate) number: usize,
+    /// How many pairs with other racks.
+    pub(crate) racks: usize,
 }
 
 /// Whether a choice has an event of a pair, if its item has this number.
@@ -27,6 +29,7 @@ impl Before {
         Before {
             place: 0,
             number: 0,
+            racks: 0,
         }
     }
 
@@ -36,6 +39,9 @@ impl Before {
         Before {
             place: self.place.saturating_add(if taken { 1 } else { 0 }),
             number: self.number.saturating_add(if pair.agrees { 0 } else { 1 }),
+            racks: self
+                .racks
+                .saturating_add(if pair.other_racks { 1 } else { 0 }),
         }
     }
 }

@@ -104,7 +104,7 @@ fn push_worse(
     }
 }
 
-/// Appends that with the other line there is no game, or that it is not known whether there is one.
+/// Appends that with the other line or rack there is no game, or that it is not known whether there is one.
 fn push_with(text: &mut Vec<u8>, side: Side, what: &str) -> Result<(), AllocError> {
     say(
         text,
@@ -146,7 +146,7 @@ fn is_as_good(flip: &Trial, best: &Best) -> bool {
     }
 }
 
-/// A choice with the other line of the item with a number.
+/// A choice with the other line, or the other rack, of the item with a number.
 fn flipped(choice: usize, number: usize) -> usize {
     if number < MOST_ITEMS {
         choice ^ (1 << number)

@@ -9,6 +9,7 @@ mod counting;
 mod differences;
 mod lines;
 mod repaired;
+mod results;
 mod written;
 
 pub use choices::push_choice;

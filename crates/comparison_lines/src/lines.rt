@@ -3,11 +3,12 @@
 use crate::counting::before_pair;
 use crate::differences::{push_difference, push_scores, push_stop};
 use crate::repaired::push_repaired;
+use crate::results::{push_racks, push_results};
 use game_case::{Finding, finding_line};
 use repaired_choices::RepairedChoices;
 use sentence_parts::{Part, say};
-use sheet_alignments::{MOST_ITEMS, Side, chosen_side, many_choices, many_items};
-use sheet_comparisons::{Best, Comparison, Sheets, Stop};
+use sheet_alignments::{MOST_ITEMS, Side, chosen_side, is_chosen, many_choices, many_items};
+use sheet_comparisons::{Best, Comparison, Sheets, Stop, results_of};
 use std::alloc::{AllocError, Global};
 
 /// Appends what is said of the pair at an index, if it differs.
@@ -22,11 +23,7 @@ fn push_pair_at(
         return Ok(());
     };
     let best = comparison.find.best.as_ref();
-    let choice = match best {
-        Some(best) => best.choice,
-        None => 0,
-    };
-    let before = before_pair(sheets.pairs.as_slice(), index, choice);
+    let before = before_pair(sheets.pairs.as_slice(), index, best_choice(comparison));
     if !pair.agrees {
         let flips = comparison.flips.as_slice();
         return push_difference(alloc, text, sheets, pair, index, before.number, best, flips);
@@ -38,6 +35,32 @@ fn push_pair_at(
         },
         None => Ok(()),
     }
+}
+
+/// The best choice, or the first if none is known to make a game.
+fn best_choice(comparison: &Comparison) -> usize {
+    match &comparison.find.best {
+        Some(best) => best.choice,
+        None => 0,
+    }
+}
+
+/// Appends the racks of the pair at an index, if they differ.
+fn push_racks_at(
+    text: &mut Vec<u8>,
+    sheets: &Sheets,
+    index: usize,
+    comparison: &Comparison,
+) -> Result<(), AllocError> {
+    let pairs = sheets.pairs.as_slice();
+    let Some(pair) = pairs.get(index) else {
+        return Ok(());
+    };
+    let choice = best_choice(comparison);
+    let racks = before_pair(pairs, index, choice).racks;
+    let number = many_items(pairs).saturating_add(racks);
+    let flip = comparison.flips.as_slice().get(number);
+    push_racks(text, sheets, pair, is_chosen(choice, number), flip)
 }
 
 /// Appends how many other choices are as good, if there are any.
@@ -150,8 +173,8 @@ fn push_verdict(alloc: Global, text: &mut Vec<u8>, best: &Best) -> Result<(), Al
     text.extend_from_slice(line.as_slice())
 }
 
-/// Appends the comparison of two sheets: each difference with its lines and what the rules say of them, and the verdict on the merged record. If no choice of
-/// the lines makes a game, the verdict is that on the record of a choice with one more change, if there is one.
+/// Appends the comparison of two sheets: each difference with its lines and what the rules say of them, the verdict on the merged record, the last totals
+/// that differ, and who won. If no choice of the lines makes a game, the verdict is that on the record of a choice with one more change, if there is one.
 ///
 /// It fails only if memory runs out.
 pub fn push_comparison(
@@ -163,12 +186,15 @@ pub fn push_comparison(
 ) -> Result<(), AllocError> {
     for index in 0..sheets.pairs.len() {
         push_pair_at(alloc, text, sheets, index, comparison)?;
+        push_racks_at(text, sheets, index, comparison)?;
     }
     match &comparison.find.best {
         Some(best) => {
             push_rivals(text, comparison)?;
             push_left(text, comparison)?;
-            push_verdict(alloc, text, best)
+            push_verdict(alloc, text, best)?;
+            let results = results_of(sheets, best.right.as_slice());
+            push_results(text, sheets, &results, best.complete)
         }
         None => {
             push_left(text, comparison)?;

@@ -2,6 +2,7 @@
 
 use crate::counting::pair_at;
 use crate::lines::push_name;
+use crate::results::push_results;
 use crate::written::event_at;
 use game_case::{Finding, finding_line};
 use gcg_read::Event;
@@ -9,7 +10,7 @@ use record_repairs::Repair;
 use repair_words::push_change;
 use repaired_choices::{BestRepair, RepairedChoice, RepairedChoices};
 use sentence_parts::{Part, say};
-use sheet_comparisons::Sheets;
+use sheet_comparisons::{Sheets, results_of};
 use std::alloc::{AllocError, Global};
 
 /// Whether a line of a sheet has this number.
@@ -101,5 +102,7 @@ pub(crate) fn push_repaired(
             complete: best.complete,
         },
     )?;
-    text.extend_from_slice(line.as_slice())
+    text.extend_from_slice(line.as_slice())?;
+    let results = results_of(sheets, repair.right.as_slice());
+    push_results(text, sheets, &results, best.complete)
 }

@@ -1,5 +1,5 @@
 -- Why an event is refused: what the check that it fails says of it.
-use Rattle.std.proofs.Common.{◌≡◌, ◌≢◌, ◌⊎◌, inl, inr, ℕ, ℤ, pos, neg_ℤ, ◌+◌, ◌*◌, ◌<◌, ◌==◌, ◌&&◌, ◌||◌, nat_lt, nat_le, not, Bool, true, false, List, [], ◌∷◌, length, sum, Option, Some, None, option_map, if◌then◌else◌, refl, sym, ap, ◌∙◌, subst}
+use Rattle.std.proofs.Common.{◌≡◌, ◌≢◌, ◌⊎◌, inl, inr, ℕ, ℤ, pos, neg_ℤ, ◌+◌, ◌*◌, ◌<◌, ◌==◌, ◌&&◌, ◌||◌, nat_lt, nat_le, not, Bool, true, false, List, [], ◌∷◌, length, sum, is_some, Option, Some, None, option_map, if◌then◌else◌, refl, sym, ap, ◌∙◌, subst}
 use Rattle.std.specs.List.{list_all, list_any}
 use Rattle.std.specs.Option.{option_or}
 use Rattle.std.specs.Ordering.{int_eq}
@@ -7,6 +7,7 @@ use Rattle.std.proofs.lemmas.Bool.{not-true, both_ways, or_cases, ltb-true, leb-
 use Rattle.std.proofs.lemmas.Bool.Decides.{Decides-eqb, Decides-int_eq}
 use Rattle.std.proofs.lemmas.Option.{same_Some}
 use Rattle.first_faults.specs.Checks.{fails, first_fault}
+use Rattle.first_faults.proofs.CheckLaws.{some_fault}
 use Rattle.ref_tiles.specs.declared.tiles.Tile.{Tile}
 use Rattle.ref_tiles.specs.declared.symbols.Symbol.{Symbol}
 use Rattle.ref_tiles.specs.declared.rulebook.Rules.{Rules}
@@ -27,6 +28,7 @@ use Rattle.gcg_read.specs.declared.events.EventKind.TheVariants as kind
 use Rattle.game_turns.specs.declared.faults.RuleFault.{RuleFault}
 use Rattle.game_turns.specs.declared.faults.RuleFault.TheVariants as fault
 use Rattle.game_turns.specs.Seats.{same_seat, may_move, side_of}
+use Rattle.game_turns.specs.Standing.{is_withdraw}
 use Rattle.game_turns.specs.Tallies.{State, Latest, played, taken_back, other, is_time, is_last_rack}
 use Rattle.game_turns.specs.LatestEvents.{latest_words}
 use Rattle.game_turns.specs.Checks.{is_over, may_idle, play_fault, text_score, points_in, is_bonus, is_penalty, listed_in, is_stale, interrupts, total_after, check_score, check_total, check_turn, check_play, check_pass, check_exchange, check_withdraw, check_challenge, check_time, check_other_rack, check_own_rack, check_due_rack, check_last_rack, check_kind, fault_in}
@@ -62,31 +64,57 @@ first_says P [] each = none_says P
 first_says P (None ∷ checks) each = first_says P checks each.1
 first_says P (Some f ∷ checks) each = each.0
 
+-- the same, where what a check says may rest on that the check before it does not fail
+after_none : (P : RuleFault → Type 0) (check : Option RuleFault) (checks : List (Option RuleFault)) → Says P check → (check ≡ None → Says P (first_fault checks))
+    → Says P (first_fault (check ∷ checks))
+after_none P None checks own rest = rest refl
+after_none P (Some f) checks own rest = own
+
+no_play_fault : (o : Option PlayFault) → option_map fault.Play o ≡ None → o ≡ None
+no_play_fault None e = refl
+no_play_fault (Some f) e = cc
+
 -- ---- what each fault says
 
 -- whose turn it is, or whose line a last rack is on
 pub record IsOutOfTurn (s : State) (player : Seat) (what : EventKind) : Type 0 where
   pub turn : is_last_rack what ≡ false → may_move s.mover player ≡ false
   pub line : is_last_rack what ≡ true → (out : Seat) → s.out ≡ Some out → same_seat out player ≡ false
+  pub due : is_last_rack what ≡ true → s.out ≡ None → ⊥
+
+-- whether the latest event is a play
+abbrev pub is_played : Latest → Bool
+is_played (played p) = true
+is_played (taken_back tiles) = false
+is_played other = false
+
+-- the latest event is no play of the player that a withdrawal could take back, or a play that awaits its withdrawal is followed by something else
+abbrev pub IsNotAwaited : (taken : Bool) → Seat → Latest → Type 0
+IsNotAwaited taken player (played p) = (same_seat p.player player ≡ false) ⊎ (p.stands ≡ taken)
+IsNotAwaited taken player (taken_back tiles) = Unit {0}
+IsNotAwaited taken player other = Unit {0}
 
 abbrev pub Because : Rules → (list : List (List ℕ)) → State → Event → EventKind → RuleFault → Type 0
 Because rules list s e what fault.NotYourTurn = IsOutOfTurn s e.player what
 Because rules list s e what (fault.Play why) = OfPlay what (λ at dir word. play_fault s.board dir at word ≡ Some why)
 Because rules list s e what (fault.WrongScore right) = e.score ≢ right
 Because rules list s e what (fault.WrongTotal right) = e.total ≢ right
-Because rules list s e what fault.NothingToWithdraw = Unit {0}
-Because rules list s e what fault.WithdrawnValid = (is_withdrawal what ≡ true) × (list_all (is_listed list) (latest_words s.latest) ≡ true)
-Because rules list s e what fault.BonusOnPhony = (is_challenge what ≡ true) × (list_any (is_listed list) (latest_words s.latest) ≡ false)
+Because rules list s e what fault.NothingToWithdraw = IsNotAwaited (is_withdraw what) e.player s.latest
+Because rules list s e what fault.WithdrawnValid =
+    (is_withdrawal what ≡ true) × (list_all (is_listed list) (latest_words s.latest) ≡ true) × (is_played s.latest ≡ true)
+Because rules list s e what fault.BonusOnPhony =
+    (is_challenge what ≡ true) × (list_any (is_listed list) (latest_words s.latest) ≡ false) × (is_played s.latest ≡ true)
 Because rules list s e what fault.BadBonus = Unit {0}
 Because rules list s e what fault.ExchangeRefused = (is_exchange what ≡ true) × (s.bag < rules.exchange_min)
 Because rules list s e what fault.ExchangeSize =
     (is_exchange what ≡ true) × (((side_of s.sides e.player).rack < exchanged what) ⊎ (s.bag < exchanged what))
-Because rules list s e what fault.GameOver = Unit {0}
+Because rules list s e what fault.GameOver = is_over s ≡ true
 Because rules list s e what fault.NotOver = (s.out ≡ None) × (s.zero_run < rules.zero_limit)
 Because rules list s e what fault.LastRackSize = OfLastRack what (λ tiles. sum tiles ≢ (side_of s.sides (holder_by s.out e.player)).rack)
 Because rules list s e what fault.BadTime =
     (is_time what ≡ true) × ((is_penalty rules.time_step e.score ≡ false) ⊎ ((side_of s.sides e.player).timed ≡ true))
-Because rules list s e what fault.TooManyUsed = OfPlay what (λ at dir word. (side_of s.sides e.player).rack < length (placement_of s.board dir at word))
+Because rules list s e what fault.TooManyUsed =
+    OfPlay what (λ at dir word. ((side_of s.sides e.player).rack < length (placement_of s.board dir at word)) × (play_fault s.board dir at word ≡ None))
 
 -- ---- checks of several kinds
 
@@ -106,7 +134,11 @@ total_says rules list s e what =
 
 out_of_turn : (s : State) (player : Seat) (what : EventKind) → is_last_rack what ≡ false → not (may_move s.mover player) ≡ true → IsOutOfTurn s player what
 out_of_turn s player what plain wrong =
-    record { turn = λ _. not-true (may_move s.mover player) wrong; line = λ rack. absurd (both_ways (is_last_rack what) plain rack) }
+    record {
+      turn = λ _. not-true (may_move s.mover player) wrong;
+      line = λ rack. absurd (both_ways (is_last_rack what) plain rack);
+      due = λ rack. absurd (both_ways (is_last_rack what) plain rack);
+    }
 
 turn_says : (rules : Rules) (list : List (List ℕ)) (s : State) (e : Event) (what : EventKind) → is_last_rack what ≡ false
     → Says (Because rules list s e what) (check_turn s e)
@@ -123,28 +155,23 @@ play_says rules list s e dir at word =
     let P = Because rules list s e what in
     let rack = (side_of s.sides e.player).rack in
     let used = length (placement_of s.board dir at word) in
-    first_says P (
-    fails (is_over s) fault.GameOver
-    ∷ check_turn s e
-    ∷ option_map fault.Play (play_fault s.board dir at word)
-    ∷ fails (nat_lt rack used) fault.TooManyUsed
-    ∷ check_score e.score (text_score rules s.board dir at word)
-    ∷ check_total s e ∷ []) (
-      fails_says P (is_over s) fault.GameOver (λ _. tt),
-      (
-        turn_says rules list s e what refl,
-        (
-          play_fault_says P (play_fault s.board dir at word) (λ f is. is),
-          (
-            fails_says P (nat_lt rack used) fault.TooManyUsed (λ so. ltb-true rack used so),
-            (
-              score_says rules list s e what (text_score rules s.board dir at word),
-              (total_says rules list s e what, tt),
-            ),
-          ),
-        ),
-      ),
-    )
+    let numbers = check_score e.score (text_score rules s.board dir at word) ∷ check_total s e ∷ [] in
+    let tiles = fails (nat_lt rack used) fault.TooManyUsed ∷ numbers in
+    let laid = option_map fault.Play (play_fault s.board dir at word) ∷ tiles in
+    let of_numbers : Says P (first_fault numbers) =
+    first_says P numbers (score_says rules list s e what (text_score rules s.board dir at word), (total_says rules list s e what, tt)) in
+    let of_tiles : play_fault s.board dir at word ≡ None → Says P (first_fault tiles) =
+    λ none. after_none P (fails (nat_lt rack used) fault.TooManyUsed) numbers
+    (fails_says P (nat_lt rack used) fault.TooManyUsed (λ so. (ltb-true rack used so, none))) (λ _. of_numbers) in
+    let of_laid : Says P (first_fault laid) =
+    after_none P (option_map fault.Play (play_fault s.board dir at word)) tiles (play_fault_says P (play_fault s.board dir at word) (λ f is. is))
+    (λ none. of_tiles (no_play_fault (play_fault s.board dir at word) none)) in
+    after_none P (fails (is_over s) fault.GameOver) (check_turn s e ∷ laid) (fails_says P (is_over s) fault.GameOver (λ so. so))
+    (λ _. after_none P (check_turn s e) laid (turn_says rules list s e what refl) (λ _. of_laid))
+
+and_left : (a b : Bool) → (a && b) ≡ true → a ≡ true
+and_left true b e = refl
+and_left false b e = cc
 
 pass_says : (rules : Rules) (list : List (List ℕ)) (s : State) (e : Event) → Says (Because rules list s e kind.Pass) (check_pass s e)
 unfolding check_pass
@@ -152,7 +179,7 @@ pass_says rules list s e =
     let P = Because rules list s e kind.Pass in
     let over = is_over s && not (may_idle s e.player) in
     first_says P (fails over fault.GameOver ∷ check_turn s e ∷ check_score e.score (pos 0) ∷ check_total s e ∷ []) (
-      fails_says P over fault.GameOver (λ _. tt),
+      fails_says P over fault.GameOver (λ so. and_left (is_over s) (not (may_idle s e.player)) so),
       (
         turn_says rules list s e kind.Pass refl,
         (
@@ -182,7 +209,7 @@ exchange_says rules list s e what is plain =
     ∷ fails large fault.ExchangeSize
     ∷ check_score e.score (pos 0)
     ∷ check_total s e ∷ []) (
-      fails_says P (is_over s) fault.GameOver (λ _. tt),
+      fails_says P (is_over s) fault.GameOver (λ so. so),
       (
         turn_says rules list s e what plain,
         (
@@ -198,6 +225,10 @@ exchange_says rules list s e what is plain =
       ),
     )
 
+not_to_take : (stands own : Bool) → (stands ≡ true) ⊎ (not own ≡ true) → (own ≡ false) ⊎ (stands ≡ true)
+not_to_take stands own (inl so) = inr so
+not_to_take stands own (inr so) = inl (not-true own so)
+
 withdraw_says : (rules : Rules) (list : List (List ℕ)) (s : State) (e : Event) (latest : Latest) → s.latest ≡ latest
     → Says (Because rules list s e kind.Withdraw) (check_withdraw list s e latest)
 unfolding check_withdraw
@@ -206,17 +237,19 @@ withdraw_says rules list s e (played p) is =
     let none = p.stands || not (same_seat p.player e.player) in
     let valid = list_all (is_listed list) p.words in
     first_says P (fails none fault.NothingToWithdraw ∷ fails valid fault.WithdrawnValid ∷ check_score e.score (neg_ℤ p.score) ∷ check_total s e ∷ []) (
-      fails_says P none fault.NothingToWithdraw (λ _. tt),
+      fails_says P none fault.NothingToWithdraw
+          (λ so. subst (IsNotAwaited true e.player) (sym is) (not_to_take p.stands (same_seat p.player e.player) (or_cases p.stands (not (same_seat p.player e.player)) so))),
       (
-        fails_says P valid fault.WithdrawnValid (λ so. (refl, ap (λ (l : Latest). list_all (is_listed list) (latest_words l)) is ∙ so)),
+        fails_says P valid fault.WithdrawnValid (λ so. (refl, ap (λ (l : Latest). list_all (is_listed list) (latest_words l)) is ∙ so, ap is_played is)),
         (
           score_says rules list s e kind.Withdraw (neg_ℤ p.score),
           (total_says rules list s e kind.Withdraw, tt),
         ),
       ),
     )
-withdraw_says rules list s e (taken_back tiles) is = some_says (Because rules list s e kind.Withdraw) fault.NothingToWithdraw tt
-withdraw_says rules list s e other is = some_says (Because rules list s e kind.Withdraw) fault.NothingToWithdraw tt
+withdraw_says rules list s e (taken_back tiles) is =
+    some_says (Because rules list s e kind.Withdraw) fault.NothingToWithdraw (subst (IsNotAwaited true e.player) (sym is) tt)
+withdraw_says rules list s e other is = some_says (Because rules list s e kind.Withdraw) fault.NothingToWithdraw (subst (IsNotAwaited true e.player) (sym is) tt)
 
 challenge_says : (rules : Rules) (list : List (List ℕ)) (s : State) (e : Event) (latest : Latest) → s.latest ≡ latest
     → Says (Because rules list s e kind.Challenge) (check_challenge rules list s e latest)
@@ -229,7 +262,7 @@ challenge_says rules list s e (played p) is =
     first_says P (fails none fault.BadBonus ∷ fails (not any) fault.BonusOnPhony ∷ fails wrong fault.BadBonus ∷ check_total s e ∷ []) (
       fails_says P none fault.BadBonus (λ _. tt),
       (
-        fails_says P (not any) fault.BonusOnPhony (λ so. (refl, ap (λ (l : Latest). list_any (is_listed list) (latest_words l)) is ∙ not-true any so)),
+        fails_says P (not any) fault.BonusOnPhony (λ so. (refl, ap (λ (l : Latest). list_any (is_listed list) (latest_words l)) is ∙ not-true any so, ap is_played is)),
         (
           fails_says P wrong fault.BadBonus (λ _. tt),
           (total_says rules list s e kind.Challenge, tt),
@@ -260,7 +293,26 @@ own_line s player tiles out is wrong =
       turn = λ plain. absurd (both_ways true plain refl);
       line = λ _ one there.
           subst (λ (seat : Seat). same_seat seat player ≡ false) (same_Some out one (sym is ∙ there)) (not-true (same_seat out player) wrong);
+      due = λ _ none. some_fault out (sym is ∙ none);
     }
+
+-- turns are over once a player has shown a last rack, and once the game is complete
+over_by_end : (o a b c : Bool) → (a ≡ true) ⊎ (b ≡ true) → (o || a || b || c) ≡ true
+over_by_end true a b c is = refl
+over_by_end false true b c is = refl
+over_by_end false false true c is = refl
+over_by_end false false false c (inl is) = cc
+over_by_end false false false c (inr is) = cc
+
+over_by_all : (o a b c : Bool) → c ≡ true → (o || a || b || c) ≡ true
+over_by_all true a b c is = refl
+over_by_all false true b c is = refl
+over_by_all false false true c is = refl
+over_by_all false false false c is = is
+
+ended_over : (s : State) (player : Seat) → (side_of s.sides player).ended ≡ true → is_over s ≡ true
+ended_over s First is = over_by_end (is_some s.out) s.sides.first.ended s.sides.second.ended s.complete (inl is)
+ended_over s Second is = over_by_end (is_some s.out) s.sides.first.ended s.sides.second.ended s.complete (inr is)
 
 other_size : (s : State) (player : Seat) (tiles : List ℕ) (out : Option Seat) → s.out ≡ out → not (sum tiles == (side_of s.sides (holder_by out player)).rack) ≡ true
     → sum tiles ≢ (side_of s.sides (holder_by s.out player)).rack
@@ -295,7 +347,7 @@ due_says rules list s e tiles None true is is_stale_is =
     let ended = (side_of s.sides e.player).ended in
     let size = not (sum tiles == (side_of s.sides e.player).rack) in
     first_says P (fails ended fault.GameOver ∷ fails size fault.LastRackSize ∷ check_score e.score (neg_ℤ (pos (points_in rules tiles))) ∷ check_total s e ∷ []) (
-      fails_says P ended fault.GameOver (λ _. tt),
+      fails_says P ended fault.GameOver (λ so. ended_over s e.player so),
       (
         fails_says P size fault.LastRackSize (λ so. other_size s e.player tiles None is so),
         (
@@ -313,7 +365,7 @@ unfolding check_last_rack
 last_says rules list s e tiles =
     let P = Because rules list s e (kind.LastRack tiles) in
     first_says P (fails s.complete fault.GameOver ∷ check_due_rack rules s e tiles s.out (is_stale rules s) ∷ [])
-    (fails_says P s.complete fault.GameOver (λ _. tt), (due_says rules list s e tiles s.out (is_stale rules s) refl refl, tt))
+    (fails_says P s.complete fault.GameOver (λ so. over_by_all (is_some s.out) s.sides.first.ended s.sides.second.ended s.complete so), (due_says rules list s e tiles s.out (is_stale rules s) refl refl, tt))
 
 kind_says : (rules : Rules) (list : List (List ℕ)) (s : State) (e : Event) (what : EventKind) → Says (Because rules list s e what) (check_kind rules list s e what)
 kind_says rules list s e (kind.Play at dir word) = play_says rules list s e dir at word
@@ -325,6 +377,18 @@ kind_says rules list s e kind.Challenge = challenge_says rules list s e s.latest
 kind_says rules list s e kind.Time = time_says rules list s e
 kind_says rules list s e (kind.LastRack tiles) = last_says rules list s e tiles
 
+left_awaiting : (stands own taken : Bool) → (not stands && not (taken && own)) ≡ true → (own ≡ false) ⊎ (stands ≡ taken)
+left_awaiting true own taken e = cc
+left_awaiting false true true e = cc
+left_awaiting false false true e = inl refl
+left_awaiting false own false e = inr refl
+
+-- a play that awaits its withdrawal is followed by something else
+broken : (latest : Latest) (player : Seat) (what : EventKind) → interrupts latest player what ≡ true → IsNotAwaited (is_withdraw what) player latest
+broken (played p) player what so = left_awaiting p.stands (same_seat p.player player) (is_withdraw what) so
+broken (taken_back tiles) player what so = tt
+broken other player what so = tt
+
 -- what the fault of an event says
 pub because : (rules : Rules) (list : List (List ℕ)) (s : State) (e : Event) (why : RuleFault) → fault_in rules list s e ≡ Some why → Because rules list s e e.kind why
 unfolding fault_in
@@ -332,7 +396,7 @@ because rules list s e why is =
     let P = Because rules list s e e.kind in
     let awaited = interrupts s.latest e.player e.kind in
     first_says P (fails awaited fault.NothingToWithdraw ∷ check_kind rules list s e e.kind ∷ [])
-    (fails_says P awaited fault.NothingToWithdraw (λ _. tt), (kind_says rules list s e e.kind, tt)) why is
+    (fails_says P awaited fault.NothingToWithdraw (λ so. broken s.latest e.player e.kind so), (kind_says rules list s e e.kind, tt)) why is
 
 -- ---- one by one
 
@@ -429,8 +493,10 @@ pub more_than_held : (rules : Rules) (list : List (List ℕ)) (s : State) (e : E
     → has ≡ (side_of s.sides e.player).rack → has < used
 more_than_held rules list s e at dir word used has is play many own =
     let rack = (side_of s.sides e.player).rack in
-    let told = subst (λ (k : EventKind). OfPlay k (λ a d w. rack < length (placement_of s.board d a w))) play (because rules list s e fault.TooManyUsed is) in
-    subst (λ n. n < used) (sym own) (subst (λ n. rack < n) (as_many (leaves_board dir at word) (length (placement_of s.board dir at word)) used many) told)
+    let told =
+    subst (λ (k : EventKind). OfPlay k (λ a d w. (rack < length (placement_of s.board d a w)) × (play_fault s.board d a w ≡ None))) play
+    (because rules list s e fault.TooManyUsed is) in
+    subst (λ n. n < used) (sym own) (subst (λ n. rack < n) (as_many (leaves_board dir at word) (length (placement_of s.board dir at word)) used many) told.0)
 
 -- what is said of each fault of a play
 abbrev pub SaysOfPlay : (P : PlayFault → Type 0) → Option PlayFault → Type 0
@@ -440,19 +506,19 @@ abbrev pub EachOfPlay : (P : PlayFault → Type 0) → List (Option PlayFault) �
 EachOfPlay P [] = Unit {0}
 EachOfPlay P (check ∷ checks) = SaysOfPlay P check × EachOfPlay P checks
 
-none_of_play : (P : PlayFault → Type 0) → SaysOfPlay P None
+pub none_of_play : (P : PlayFault → Type 0) → SaysOfPlay P None
 none_of_play P why e = cc
 
-fails_of_play : (P : PlayFault → Type 0) (test : Bool) (f : PlayFault) → (test ≡ true → P f) → SaysOfPlay P (fails test f)
+pub fails_of_play : (P : PlayFault → Type 0) (test : Bool) (f : PlayFault) → (test ≡ true → P f) → SaysOfPlay P (fails test f)
 fails_of_play P true f so why e = subst P (same_Some f why e) (so refl)
 fails_of_play P false f so why e = cc
 
-first_of_play : (P : PlayFault → Type 0) (checks : List (Option PlayFault)) → EachOfPlay P checks → SaysOfPlay P (first_fault checks)
+pub first_of_play : (P : PlayFault → Type 0) (checks : List (Option PlayFault)) → EachOfPlay P checks → SaysOfPlay P (first_fault checks)
 first_of_play P [] each = none_of_play P
 first_of_play P (None ∷ checks) each = first_of_play P checks each.1
 first_of_play P (Some f ∷ checks) each = each.0
 
-either_of_play : (P : PlayFault → Type 0) (a b : Option PlayFault) → SaysOfPlay P a → SaysOfPlay P b → SaysOfPlay P (option_or a b)
+pub either_of_play : (P : PlayFault → Type 0) (a b : Option PlayFault) → SaysOfPlay P a → SaysOfPlay P b → SaysOfPlay P (option_or a b)
 either_of_play P None b of_a of_b = of_b
 either_of_play P (Some f) b of_a of_b = of_a
 

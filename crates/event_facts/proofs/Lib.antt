@@ -1,6 +1,8 @@
 pub mod Telling
 pub mod Plays
 pub mod Because
+pub mod Beginnings
+pub mod FaultFactLaws
 pub mod Numbers
 pub mod Places
 pub mod RackLaws

@@ -6,6 +6,7 @@ use Rattle.std.specs.Ordering.{int_eq}
 use Rattle.std.proofs.lemmas.Option.{same_Some}
 use Rattle.std.proofs.Math.IntN.{+ℤ_comm, -ℤ-+ℤ_cancel, +ℤ-neg_ℤ_cancel}
 use Rattle.first_faults.specs.Checks.{fails}
+use Rattle.first_faults.proofs.CheckLaws.{some_fault}
 use Rattle.ref_tiles.specs.declared.rulebook.Rules.{Rules}
 use Rattle.gcg_read.specs.declared.events.Event.{Event}
 use Rattle.gcg_read.specs.declared.events.EventKind.{EventKind}
@@ -78,6 +79,11 @@ score_told rules list s e right fails =
     score_is rules s e.kind
     ∙ score_named (shapes.kind_score rules s e.kind) (side_of s.sides e.player).total e.score e.total right
     (numbers_told rules list s e (fault.WrongScore right) right fails refl).1
+
+-- so the score of an event to which the rules give none is not refused
+pub none_given : (rules : Rules) (list : List (List ℕ)) (s : State) (e : Event) (right : ℤ) → fault_in rules list s e ≡ Some (fault.WrongScore right)
+    → right_score rules s e.kind ≡ None → ⊥
+none_given rules list s e right fails none = some_fault right (sym (score_told rules list s e right fails) ∙ none)
 
 -- a wrong total names what the player had plus the score
 pub total_told : (rules : Rules) (list : List (List ℕ)) (s : State) (e : Event) (right : ℤ) → fault_in rules list s e ≡ Some (fault.WrongTotal right)

@@ -7,6 +7,9 @@ pub one_more : {X : Type 0} (P : X → Type 0) (old new : List X) (x : X) → ne
 one_more P old new x is before here =
     subst (All P) (sym is) (All-append P old (x ∷ []) before (All-cons P x [] here (All-nil P)))
 
+pub more_behind : {X : Type 0} (P : X → Type 0) (old new more : List X) → new ≡ old ++ more → All P old → All P more → All P new
+more_behind P old new more is before behind = subst (All P) (sym is) (All-append P old more before behind)
+
 -- one more unit
 pub one_unit_more : (unit k amount next : ℕ) → amount ≡ unit * k → next ≡ amount + unit → next ≡ unit * (k + 1)
 one_unit_more unit k amount next before is = is ∙ ap (λ n. n + unit) before ∙ sym (mul-suc unit k) ∙ ap (λ n. unit * n) (sym (add-one k))

@@ -1,5 +1,5 @@
 -- What is true of an event in its place: for each fact, what its numbers, squares, players and lines are.
-use Rattle.std.specs.Prelude.{◌≡◌, ◌≢◌, ◌⊎◌, ℕ, ℤ, pos, neg_ℤ, ◌+◌, ◌-◌, ◌*◌, ◌+ℤ◌, ◌<◌, ◌==◌, Bool, true, false, List, All, Contains, length, sum, map, take, reverse, slice_get, Option, Some, None, is_some, if◌then◌else◌}
+use Rattle.std.specs.Prelude.{◌≡◌, ◌≢◌, ◌⊎◌, ℕ, ℤ, pos, neg_ℤ, ◌+◌, ◌-◌, ◌*◌, ◌+ℤ◌, ◌<◌, ◌==◌, ◌&&◌, Bool, true, false, List, All, Contains, length, sum, map, take, reverse, slice_get, Option, Some, None, is_some, if◌then◌else◌}
 use Rattle.std.specs.List.{range_with_len, list_all, list_any}
 use Rattle.ref_tiles.specs.declared.symbols.Symbol.{Symbol}
 use Rattle.ref_tiles.specs.declared.symbols.Symbol.TheVariants as symbol
@@ -98,6 +98,10 @@ right_score rules s (kind.LastRack tiles) = Some (last_rack_score (points_in rul
 -- the right score of the event, and the one that is written in its place
 abbrev pub AreScores : Moment → (right written : ℤ) → Type 0
 AreScores m right written = (right_score m.rules m.before m.event.kind ≡ Some right) × (written ≡ m.event.score) × (right ≢ written)
+
+-- whether an event is a penalty for time of a player
+abbrev pub is_time_of : Seat → Event → Bool
+is_time_of player e = is_time e.kind && same_seat e.player player
 
 -- the line of a penalty for time of a player
 pub record IsTimeOf (events : List Event) (player : Seat) (line : ℕ) : Type 0 where

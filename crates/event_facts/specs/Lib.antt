@@ -3,5 +3,6 @@ pub mod Elsewhere
 pub mod Readings
 pub mod Orders
 pub mod Facts
+pub mod FaultFacts
 pub mod Racks
 pub mod Wholes

@@ -1,11 +1,12 @@
 //! Plays that are taken back or challenged, and their words.
-ghost use Rattle.std.specs.Prelude.{◌≡◌, ◌≤◌, ◌*◌, length, map, IfOk, IfSome, All, OnOk, option_map};
+ghost use Rattle.std.specs.Prelude.{◌≡◌, ◌≤◌, ◌*◌, true, Some, length, map, IfOk, IfSome, All, OnOk, option_map};
 ghost use Rattle.std.specs.List.{range_with_len};
 ghost use Rattle.game_turns.specs.Checks.{listed_in};
 ghost use Rattle.ref_play.specs.Words.{items_of};
 ghost use Rattle.game_turns.specs.declared.faults.RuleFault.TheVariants as fault;
 ghost use Rattle.event_facts.specs.Moments.{moment_of, IsRefusedFor};
 ghost use Rattle.event_facts.specs.Facts.{IsTrue, letters_in, play_before};
+ghost use Rattle.event_facts.specs.FaultFacts.{says, IsTallied};
 
 use crate::facts::{Fact, Spelled};
 use crate::scenes::Scene;
@@ -40,7 +41,8 @@ fn play_before<'a>(scene: &Scene<'a>) -> Option<&'a Event>
 #[tactic(auto, using(crate::proofs::Because::is_withdrawal_of, crate::proofs::Because::words_listed))]
 pub(crate) fn valid(alloc: Global, scene: &Scene<'_>) -> Result<Option<Fact>, AllocError>
     requires fails { IsRefusedFor (moment_of scene.now) fault.WithdrawnValid }
-    ensures { IfOk result (λ fact. IfSome fact (IsTrue (moment_of scene.now))) }
+    ensures told { IfOk result (λ fact. IfSome fact (IsTrue (moment_of scene.now))) }
+    ensures named { IfOk result (λ fact. IsTallied (moment_of scene.now) → says fault.WithdrawnValid fact ≡ true) }
 {
     let words = spelled(alloc, scene.machine.latest_words())?;
     match scene.past.last() {
@@ -56,7 +58,8 @@ pub(crate) fn valid(alloc: Global, scene: &Scene<'_>) -> Result<Option<Fact>, Al
 #[tactic(auto, using(crate::proofs::Because::is_challenge_of, crate::proofs::Because::words_unlisted))]
 pub(crate) fn phony(alloc: Global, scene: &Scene<'_>) -> Result<Option<Fact>, AllocError>
     requires fails { IsRefusedFor (moment_of scene.now) fault.BonusOnPhony }
-    ensures { IfOk result (λ fact. IfSome fact (IsTrue (moment_of scene.now))) }
+    ensures told { IfOk result (λ fact. IfSome fact (IsTrue (moment_of scene.now))) }
+    ensures named { IfOk result (λ fact. IsTallied (moment_of scene.now) → says fault.BonusOnPhony fact ≡ true) }
 {
     let words = spelled(alloc, scene.machine.latest_words())?;
     match scene.past.last() {
@@ -68,17 +71,31 @@ pub(crate) fn phony(alloc: Global, scene: &Scene<'_>) -> Result<Option<Fact>, Al
     }
 }
 
+/// That the play before is the other player's, so that it cannot be taken back.
+fn others_play(scene: &Scene<'_>, play: &Event) -> Option<Fact>
+    requires before { play_before scene.now.past.now ≡ Some play.now }
+    requires fails { IsRefusedFor (moment_of scene.now) fault.NothingToWithdraw }
+    ensures told { IfSome result (IsTrue (moment_of scene.now)) }
+    ensures named { IsTallied (moment_of scene.now) → says fault.NothingToWithdraw result ≡ true }
+{
+    if same_seat(play.player, scene.event.player) {
+        return None;
+    }
+    Some(Fact::OthersPlay {
+        line: play.line,
+        player: scene.event.player,
+        other: play.player,
+    })
+}
+
 /// Why there is no play to take back.
 pub(crate) fn nothing_to_withdraw(scene: &Scene<'_>) -> Option<Fact>
-    ensures { IfSome result (IsTrue (moment_of scene.now)) }
+    requires fails { IsRefusedFor (moment_of scene.now) fault.NothingToWithdraw }
+    ensures told { IfSome result (IsTrue (moment_of scene.now)) }
+    ensures named { IsTallied (moment_of scene.now) → says fault.NothingToWithdraw result ≡ true }
 {
     match play_before(scene) {
-        Some(play) if !same_seat(play.player, scene.event.player) => Some(Fact::OthersPlay {
-            line: play.line,
-            player: scene.event.player,
-            other: play.player,
-        }),
-        Some(_) => None,
+        Some(play) => others_play(scene, play),
         None => Some(Fact::NothingToTakeBack {
             is_first: scene.past.is_empty(),
         }),
@@ -87,7 +104,8 @@ pub(crate) fn nothing_to_withdraw(scene: &Scene<'_>) -> Option<Fact>
 
 /// Which bonus a challenge gives, or that there is no play to challenge.
 pub(crate) fn wrong_bonus(alloc: Global, scene: &Scene<'_>) -> Result<Option<Fact>, AllocError>
-    ensures { IfOk result (λ fact. IfSome fact (IsTrue (moment_of scene.now))) }
+    ensures told { IfOk result (λ fact. IfSome fact (IsTrue (moment_of scene.now))) }
+    ensures named { IfOk result (λ fact. says fault.BadBonus fact ≡ true) }
 {
     match play_before(scene) {
         Some(play) if same_seat(play.player, scene.event.player) => bonus(alloc, scene),
@@ -114,7 +132,8 @@ fn listed_in(list: &WordList, words: &[Word]) -> usize
 
 /// Which bonus is allowed.
 fn bonus(alloc: Global, scene: &Scene<'_>) -> Result<Option<Fact>, AllocError>
-    ensures { IfOk result (λ fact. IfSome fact (IsTrue (moment_of scene.now))) }
+    ensures told { IfOk result (λ fact. IfSome fact (IsTrue (moment_of scene.now))) }
+    ensures named { IfOk result (λ fact. says fault.BadBonus fact ≡ true) }
 {
     let listed = listed_in(scene.list, scene.machine.latest_words());
     let unit = scene.rules.challenge_unit as usize;

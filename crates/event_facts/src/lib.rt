@@ -24,6 +24,6 @@ pub use facts::{
 };
 pub use racks::{left_over, no_deal, rack_too_big, tiles_short};
 pub use readings::tell_rack_slip;
-pub use rule_faults::tell_rule_fault;
+pub use rule_faults::rule_fault_facts;
 pub use scenes::Scene;
 pub use wholes::push_notes;

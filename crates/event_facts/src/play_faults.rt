@@ -1,35 +1,39 @@
 //! What is wrong with the text or the placement of a play.
-ghost use Rattle.std.specs.Prelude.{◌≡◌, All, OnOk, IfSome, Some};
+ghost use Rattle.std.specs.Prelude.{◌≡◌, true, All, IfOk, IfSome, Some};
 ghost use Rattle.ref_play.specs.declared.faults.PlayFault.TheVariants as fault;
+ghost use Rattle.game_turns.specs.declared.faults.RuleFault.TheVariants as rule_fault;
 ghost use Rattle.gcg_read.specs.declared.events.EventKind.TheVariants as kind;
 ghost use Rattle.game_turns.specs.Checks.{play_fault};
 ghost use Rattle.game_turns.specs.Machines.{state_of};
 ghost use Rattle.event_facts.specs.Moments.{moment_of};
 ghost use Rattle.event_facts.specs.Facts.{IsTrue};
+ghost use Rattle.event_facts.specs.FaultFacts.{says, names_end_tile, begin_with};
 
 use crate::facts::Fact;
-use crate::scenes::{Scene, tell};
+use crate::scenes::{Scene, listed, tell, tell_some};
 use game_facts::{first_misfit, new_tiles};
-use game_turns::legal_play;
 use ref_board::{Dir, SIDE, Square};
 use ref_play::{PlayFault, along};
 use ref_tiles::Symbol;
-use std::alloc::AllocError;
+use std::alloc::{AllocError, Global};
 
 /// That a text leaves the board.
 #[tactic(auto, using(crate::proofs::Plays::of_play))]
 fn off_board(scene: &Scene<'_>, at: Square, dir: Dir, word: &[Symbol]) -> Option<Fact>
-    requires { scene.now.event.now.kind ≡ kind.Play at dir word.now }
-    ensures { IfSome result (IsTrue (moment_of scene.now)) }
+    requires play { scene.now.event.now.kind ≡ kind.Play at dir word.now }
+    requires fails { play_fault (state_of scene.now.machine.now).board dir at word.now ≡ Some fault.OffBoard }
+    ensures told { IfSome result (IsTrue (moment_of scene.now)) }
+    ensures named { says (rule_fault.Play fault.OffBoard) result ≡ true }
 {
     let room = SIDE - at.place(dir);
-    if word.len() <= room {
+    let squares = word.len();
+    if squares <= room {
         return None;
     }
     Some(Fact::LeavesBoard {
         at,
         dir,
-        squares: word.len(),
+        squares,
         room,
     })
 }
@@ -37,13 +41,16 @@ fn off_board(scene: &Scene<'_>, at: Square, dir: Dir, word: &[Symbol]) -> Option
 /// The first square on which a text does not agree with the board.
 #[tactic(auto, using(crate::proofs::Plays::of_play))]
 fn mismatch(scene: &Scene<'_>, at: Square, dir: Dir, word: &[Symbol]) -> Option<Fact>
-    requires { scene.now.event.now.kind ≡ kind.Play at dir word.now }
-    ensures { IfSome result (IsTrue (moment_of scene.now)) }
+    requires play { scene.now.event.now.kind ≡ kind.Play at dir word.now }
+    requires fails { play_fault (state_of scene.now.machine.now).board dir at word.now ≡ Some fault.Mismatch }
+    ensures told { IfSome result (IsTrue (moment_of scene.now)) }
+    ensures named { says (rule_fault.Play fault.Mismatch) result ≡ true }
 {
     let board = scene.machine.board();
     let k = first_misfit(board, at, dir, word)?;
     let symbol = word.get(k)?;
-    if at.place(dir) + k >= SIDE {
+    let end = at.place(dir) + k;
+    if end >= SIDE {
         return None;
     }
     let square = along(at, dir, k);
@@ -65,7 +72,8 @@ fn mismatch(scene: &Scene<'_>, at: Square, dir: Dir, word: &[Symbol]) -> Option<
 fn too_many(scene: &Scene<'_>, at: Square, dir: Dir, word: &[Symbol]) -> Option<Fact>
     requires play { scene.now.event.now.kind ≡ kind.Play at dir word.now }
     requires fails { play_fault (state_of scene.now.machine.now).board dir at word.now ≡ Some fault.TooManyTiles }
-    ensures { IfSome result (IsTrue (moment_of scene.now)) }
+    ensures told { IfSome result (IsTrue (moment_of scene.now)) }
+    ensures named { says (rule_fault.Play fault.TooManyTiles) result ≡ true }
 {
     let tiles = new_tiles(scene.machine.board(), at, dir, word)?;
     Some(Fact::ManyTiles { tiles })
@@ -75,7 +83,8 @@ fn too_many(scene: &Scene<'_>, at: Square, dir: Dir, word: &[Symbol]) -> Option<
 #[tactic(auto, using(crate::proofs::Plays::of_play))]
 fn tile_before(scene: &Scene<'_>, at: Square, dir: Dir, word: &[Symbol]) -> Option<Fact>
     requires { scene.now.event.now.kind ≡ kind.Play at dir word.now }
-    ensures { IfSome result (IsTrue (moment_of scene.now)) }
+    ensures told { IfSome result (IsTrue (moment_of scene.now)) }
+    ensures at_end { names_end_tile result ≡ true }
 {
     let _ = word;
     let place = at.place(dir);
@@ -94,7 +103,8 @@ fn tile_before(scene: &Scene<'_>, at: Square, dir: Dir, word: &[Symbol]) -> Opti
 #[tactic(auto, using(crate::proofs::Plays::of_play))]
 fn tile_after(scene: &Scene<'_>, at: Square, dir: Dir, word: &[Symbol]) -> Option<Fact>
     requires { scene.now.event.now.kind ≡ kind.Play at dir word.now }
-    ensures { IfSome result (IsTrue (moment_of scene.now)) }
+    ensures told { IfSome result (IsTrue (moment_of scene.now)) }
+    ensures at_end { names_end_tile result ≡ true }
 {
     let place = at.place(dir);
     if word.len() >= SIDE - place {
@@ -108,100 +118,67 @@ fn tile_after(scene: &Scene<'_>, at: Square, dir: Dir, word: &[Symbol]) -> Optio
     })
 }
 
-/// Adds a fact if there is one.
-pub(crate) fn tell_some(
-    facts: &mut Vec<Fact>,
-    scene: &Scene<'_>,
-    fact: Option<Fact>,
-) -> Result<(), AllocError>
-    requires told { All (IsTrue (moment_of scene.now)) facts.old.items }
-    requires holds { IfSome fact (IsTrue (moment_of scene.now)) }
-    ensures { OnOk result (All (IsTrue (moment_of scene.now)) facts.new.items) }
-{
-    match fact {
-        None => Ok(()),
-        Some(fact) => tell(facts, scene, fact),
-    }
-}
-
-/// Adds which tiles lie directly before and after a text.
-#[tactic(auto, using(crate::proofs::Plays::of_play))]
-fn tell_ends(
-    facts: &mut Vec<Fact>,
+/// Which tiles lie directly before and after a text, and that its line must name the whole word.
+#[tactic(auto, using(crate::proofs::Plays::of_play, crate::proofs::Beginnings::begins_behind))]
+fn whole_facts(
+    alloc: Global,
     scene: &Scene<'_>,
     at: Square,
     dir: Dir,
     word: &[Symbol],
-) -> Result<(), AllocError>
-    requires told { All (IsTrue (moment_of scene.now)) facts.old.items }
+) -> Result<Vec<Fact>, AllocError>
     requires play { scene.now.event.now.kind ≡ kind.Play at dir word.now }
     requires fails { play_fault (state_of scene.now.machine.now).board dir at word.now ≡ Some fault.NotWhole }
-    ensures { OnOk result (All (IsTrue (moment_of scene.now)) facts.new.items) }
+    ensures told { IfOk result (λ facts. All (IsTrue (moment_of scene.now)) facts.items) }
+    ensures first { IfOk result (λ facts. begin_with (rule_fault.Play fault.NotWhole) facts.items ≡ true) }
 {
-    tell_some(facts, scene, tile_before(scene, at, dir, word))?;
-    tell_some(facts, scene, tile_after(scene, at, dir, word))?;
-    tell(facts, scene, Fact::NotWhole)
+    let mut facts = Vec::new(alloc);
+    tell_some(&mut facts, scene, tile_before(scene, at, dir, word))?;
+    tell_some(&mut facts, scene, tile_after(scene, at, dir, word))?;
+    tell(&mut facts, scene, Fact::NotWhole)?;
+    Ok(facts)
 }
 
-/// What is wrong with a play on the board before it, if one fact says it.
+/// The list of a fact that says the fault of a play.
+fn only(
+    alloc: Global,
+    scene: &Scene<'_>,
+    why: PlayFault,
+    fact: Option<Fact>,
+) -> Result<Vec<Fact>, AllocError>
+    requires told { IfSome fact (IsTrue (moment_of scene.now)) }
+    requires named { says (rule_fault.Play why) fact ≡ true }
+    ensures told { IfOk result (λ facts. All (IsTrue (moment_of scene.now)) facts.items) }
+    ensures first { IfOk result (λ facts. begin_with (rule_fault.Play why) facts.items ≡ true) }
+{
+    let _ = why;
+    let facts = listed(alloc, scene, fact)?;
+    Ok(facts)
+}
+
+/// What is wrong with the text or the placement of a play on the board before it.
 #[tactic(auto, using(crate::proofs::Plays::of_play))]
-fn one_fact(
+pub(crate) fn play_fault_facts(
+    alloc: Global,
     scene: &Scene<'_>,
     at: Square,
     dir: Dir,
     word: &[Symbol],
     fault: PlayFault,
-) -> Option<Fact>
+) -> Result<Vec<Fact>, AllocError>
     requires play { scene.now.event.now.kind ≡ kind.Play at dir word.now }
     requires fails { play_fault (state_of scene.now.machine.now).board dir at word.now ≡ Some fault }
-    ensures { IfSome result (IsTrue (moment_of scene.now)) }
+    ensures told { IfOk result (λ facts. All (IsTrue (moment_of scene.now)) facts.items) }
+    ensures first { IfOk result (λ facts. begin_with (rule_fault.Play fault) facts.items ≡ true) }
 {
     match fault {
-        PlayFault::OffBoard => off_board(scene, at, dir, word),
-        PlayFault::Mismatch => mismatch(scene, at, dir, word),
-        PlayFault::NoNewTile => Some(Fact::NoNewTile),
-        PlayFault::TooManyTiles => too_many(scene, at, dir, word),
-        PlayFault::NotWhole => None,
-        PlayFault::MissesCentre => Some(Fact::MissesCentre),
-        PlayFault::TooShort => Some(Fact::TooShort),
-        PlayFault::Apart => Some(Fact::Apart),
-    }
-}
-
-/// Adds what is wrong with a play on the board before it.
-fn tell_fault(
-    facts: &mut Vec<Fact>,
-    scene: &Scene<'_>,
-    at: Square,
-    dir: Dir,
-    word: &[Symbol],
-    fault: PlayFault,
-) -> Result<(), AllocError>
-    requires told { All (IsTrue (moment_of scene.now)) facts.old.items }
-    requires play { scene.now.event.now.kind ≡ kind.Play at dir word.now }
-    requires fails { play_fault (state_of scene.now.machine.now).board dir at word.now ≡ Some fault }
-    ensures { OnOk result (All (IsTrue (moment_of scene.now)) facts.new.items) }
-{
-    if matches!(fault, PlayFault::NotWhole) {
-        return tell_ends(facts, scene, at, dir, word);
-    }
-    tell_some(facts, scene, one_fact(scene, at, dir, word, fault))
-}
-
-/// Adds what is wrong with the text or the placement of a play on the board before it, if anything is.
-pub(crate) fn tell_play_fault(
-    facts: &mut Vec<Fact>,
-    scene: &Scene<'_>,
-    at: Square,
-    dir: Dir,
-    word: &[Symbol],
-) -> Result<(), AllocError>
-    requires told { All (IsTrue (moment_of scene.now)) facts.old.items }
-    requires play { scene.now.event.now.kind ≡ kind.Play at dir word.now }
-    ensures { OnOk result (All (IsTrue (moment_of scene.now)) facts.new.items) }
-{
-    match legal_play(scene.machine.board(), at, dir, word) {
-        Ok(_) => Ok(()),
-        Err(fault) => tell_fault(facts, scene, at, dir, word, fault),
+        PlayFault::OffBoard => only(alloc, scene, fault, off_board(scene, at, dir, word)),
+        PlayFault::Mismatch => only(alloc, scene, fault, mismatch(scene, at, dir, word)),
+        PlayFault::NoNewTile => only(alloc, scene, fault, Some(Fact::NoNewTile)),
+        PlayFault::TooManyTiles => only(alloc, scene, fault, too_many(scene, at, dir, word)),
+        PlayFault::NotWhole => whole_facts(alloc, scene, at, dir, word),
+        PlayFault::MissesCentre => only(alloc, scene, fault, Some(Fact::MissesCentre)),
+        PlayFault::TooShort => only(alloc, scene, fault, Some(Fact::TooShort)),
+        PlayFault::Apart => only(alloc, scene, fault, Some(Fact::Apart)),
     }
 }

@@ -10,8 +10,7 @@ ghost use Rattle.event_facts.specs.Readings.{swapped, with_symbol, IsOnRack};
 
 use crate::challenges::spelled;
 use crate::facts::Fact;
-use crate::play_faults::tell_some;
-use crate::scenes::Scene;
+use crate::scenes::{Scene, tell_some};
 use game_turns::{all_listed, legal_play};
 use gcg_read::EventKind;
 use ref_board::{Dir, SIDE, Square};

@@ -1,18 +1,18 @@
 //! A score that is not the right one, and where it would be right.
-ghost use Rattle.std.specs.Prelude.{◌≡◌, ◌-◌, All, OnOk, IfOk, IfSome, Some, take, length, filter};
+ghost use Rattle.std.specs.Prelude.{◌≡◌, ◌-◌, true, All, OnOk, IfOk, IfSome, Some, take, length, filter};
 ghost use Rattle.gcg_read.specs.declared.events.EventKind.TheVariants as kind;
 ghost use Rattle.game_turns.specs.Checks.{fault_in};
 ghost use Rattle.game_turns.specs.Machines.{state_of};
 ghost use Rattle.game_turns.specs.declared.faults.RuleFault.TheVariants as fault;
 ghost use Rattle.event_facts.specs.Moments.{moment_of};
 ghost use Rattle.event_facts.specs.Facts.{IsTrue};
+ghost use Rattle.event_facts.specs.FaultFacts.{is_fact_of, begin_with};
 ghost use Rattle.event_facts.specs.Elsewhere.{is_listed_at, standing, places};
 
 use crate::facts::Fact;
 use crate::moving::standing_spots;
-use crate::play_faults::tell_some;
 use crate::readings::tell_slips;
-use crate::scenes::{Scene, tell};
+use crate::scenes::{Scene, tell, tell_all, tell_some};
 use game_facts::{Spot, scoring_spots};
 use game_turns::{all_listed, legal_play};
 use gcg_read::{EventKind, Text};
@@ -29,7 +29,8 @@ const NAMED: usize = 3;
 #[tactic(auto, using(crate::proofs::Numbers::score_told))]
 pub(crate) fn score_fact(scene: &Scene<'_>, right: i32) -> Fact
     requires fails { fault_in scene.now.rules.now scene.now.list.now (state_of scene.now.machine.now) scene.now.event.now ≡ Some (fault.WrongScore right) }
-    ensures { IsTrue (moment_of scene.now) result }
+    ensures told { IsTrue (moment_of scene.now) result }
+    ensures named { is_fact_of (fault.WrongScore right) result ≡ true }
 {
     let written = scene.event.score.value();
     match &scene.event.kind {
@@ -45,7 +46,8 @@ pub(crate) fn score_fact(scene: &Scene<'_>, right: i32) -> Fact
             right,
             written,
         },
-        EventKind::Challenge | EventKind::Time => Fact::OtherScore { right, written },
+        EventKind::Challenge => Fact::OtherScore { right, written },
+        EventKind::Time => Fact::OtherScore { right, written },
     }
 }
 
@@ -124,7 +126,7 @@ fn first_named(alloc: Global, spots: &[Spot]) -> Result<Named, AllocError>
 
 /// Where the text of a play has the written score and stands with the rest of the record, if it does so anywhere.
 #[tactic(auto, using(crate::proofs::Plays::of_play, crate::proofs::Places::all_score, crate::proofs::Places::all_stand))]
-fn elsewhere(
+pub(crate) fn elsewhere(
     alloc: Global,
     scene: &Scene<'_>,
     at: Square,
@@ -144,23 +146,6 @@ fn elsewhere(
         spots: named.spots,
         others: named.others,
     }))
-}
-
-/// Adds where the text of a play has the written score and stands with the rest of the record, if it does so anywhere.
-pub(crate) fn tell_elsewhere(
-    alloc: Global,
-    facts: &mut Vec<Fact>,
-    scene: &Scene<'_>,
-    at: Square,
-    dir: Dir,
-    word: &Text,
-) -> Result<(), AllocError>
-    requires told { All (IsTrue (moment_of scene.now)) facts.old.items }
-    requires play { scene.now.event.now.kind ≡ kind.Play at dir word.now }
-    ensures { OnOk result (All (IsTrue (moment_of scene.now)) facts.new.items) }
-{
-    let fact = elsewhere(alloc, scene, at, dir, word)?;
-    tell_some(facts, scene, fact)
 }
 
 /// That the written total is the right one with the right score.
@@ -200,24 +185,35 @@ fn tell_place_or_total(
     }
 }
 
-/// Adds the score of an event, and for a play, with which other tile and in which other place it would have the written score, or that
+/// For a play, with which other tile and in which other place it would have the written score, or that the written total is right.
+fn score_hints(alloc: Global, scene: &Scene<'_>, right: i32) -> Result<Vec<Fact>, AllocError>
+    requires fails { fault_in scene.now.rules.now scene.now.list.now (state_of scene.now.machine.now) scene.now.event.now ≡ Some (fault.WrongScore right) }
+    ensures { IfOk result (λ facts. All (IsTrue (moment_of scene.now)) facts.items) }
+{
+    let mut facts = Vec::new(alloc);
+    let EventKind::Play { at, dir, word } = &scene.event.kind else {
+        return Ok(facts);
+    };
+    tell_slips(alloc, &mut facts, scene, *at, *dir, word.as_slice(), true)?;
+    tell_place_or_total(alloc, &mut facts, scene, *at, *dir, word, right)?;
+    Ok(facts)
+}
+
+/// The score of an event, and for a play, with which other tile and in which other place it would have the written score, or that
 /// the written total is right.
-pub(crate) fn tell_score(
+#[tactic(auto, using(crate::proofs::Beginnings::begins, crate::proofs::Beginnings::goes_on))]
+pub(crate) fn score_facts(
     alloc: Global,
-    facts: &mut Vec<Fact>,
     scene: &Scene<'_>,
     right: i32,
-) -> Result<(), AllocError>
-    requires told { All (IsTrue (moment_of scene.now)) facts.old.items }
+) -> Result<Vec<Fact>, AllocError>
     requires fails { fault_in scene.now.rules.now scene.now.list.now (state_of scene.now.machine.now) scene.now.event.now ≡ Some (fault.WrongScore right) }
-    ensures { OnOk result (All (IsTrue (moment_of scene.now)) facts.new.items) }
+    ensures told { IfOk result (λ facts. All (IsTrue (moment_of scene.now)) facts.items) }
+    ensures first { IfOk result (λ facts. begin_with (fault.WrongScore right) facts.items ≡ true) }
 {
-    tell(facts, scene, score_fact(scene, right))?;
-    match &scene.event.kind {
-        EventKind::Play { at, dir, word } => {
-            tell_slips(alloc, facts, scene, *at, *dir, word.as_slice(), true)?;
-            tell_place_or_total(alloc, facts, scene, *at, *dir, word, right)
-        }
-        _ => Ok(()),
-    }
+    let mut hints = score_hints(alloc, scene, right)?;
+    let mut facts = Vec::new(alloc);
+    tell(&mut facts, scene, score_fact(scene, right))?;
+    tell_all(&mut facts, scene, &mut hints)?;
+    Ok(facts)
 }

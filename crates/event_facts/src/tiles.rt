@@ -1,8 +1,9 @@
 //! Events with more tiles than there are.
-ghost use Rattle.std.specs.Prelude.{◌≡◌, IfSome};
+ghost use Rattle.std.specs.Prelude.{◌≡◌, true, IfSome};
 ghost use Rattle.game_turns.specs.declared.faults.RuleFault.TheVariants as fault;
 ghost use Rattle.event_facts.specs.Moments.{moment_of, IsRefusedFor};
 ghost use Rattle.event_facts.specs.Facts.{IsTrue, exchanged, holder_at};
+ghost use Rattle.event_facts.specs.FaultFacts.{says};
 
 use crate::facts::Fact;
 use crate::scenes::Scene;
@@ -13,7 +14,8 @@ use gcg_read::{EventKind, Seat};
 #[tactic(auto, using(crate::proofs::Plays::of_play, crate::proofs::Because::more_than_held))]
 pub(crate) fn too_many_used(scene: &Scene<'_>) -> Option<Fact>
     requires fails { IsRefusedFor (moment_of scene.now) fault.TooManyUsed }
-    ensures { IfSome result (IsTrue (moment_of scene.now)) }
+    ensures told { IfSome result (IsTrue (moment_of scene.now)) }
+    ensures named { says fault.TooManyUsed result ≡ true }
 {
     let EventKind::Play { at, dir, word } = &scene.event.kind else {
         return None;
@@ -30,7 +32,8 @@ pub(crate) fn too_many_used(scene: &Scene<'_>) -> Option<Fact>
 #[tactic(auto, using(crate::proofs::Because::refused_exchange, crate::proofs::Because::bag_too_small))]
 pub(crate) fn exchange_refused(scene: &Scene<'_>) -> Option<Fact>
     requires fails { IsRefusedFor (moment_of scene.now) fault.ExchangeRefused }
-    ensures { IfSome result (IsTrue (moment_of scene.now)) }
+    ensures told { IfSome result (IsTrue (moment_of scene.now)) }
+    ensures named { says fault.ExchangeRefused result ≡ true }
 {
     Some(Fact::ExchangeRefused {
         bag: scene.machine.bag_size(),
@@ -53,7 +56,8 @@ fn exchanged(kind: &EventKind) -> usize
 #[tactic(auto, using(crate::proofs::Because::large_exchange, crate::proofs::Because::more_than_there_are))]
 pub(crate) fn exchange_size(scene: &Scene<'_>) -> Option<Fact>
     requires fails { IsRefusedFor (moment_of scene.now) fault.ExchangeSize }
-    ensures { IfSome result (IsTrue (moment_of scene.now)) }
+    ensures told { IfSome result (IsTrue (moment_of scene.now)) }
+    ensures named { says fault.ExchangeSize result ≡ true }
 {
     Some(Fact::ExchangeSize {
         tiles: exchanged(&scene.event.kind),
@@ -77,7 +81,8 @@ fn holder(scene: &Scene<'_>) -> Seat
 #[tactic(auto, using(crate::proofs::Plays::of_last_rack, crate::proofs::Because::rack_size_differs))]
 pub(crate) fn last_rack_size(scene: &Scene<'_>) -> Option<Fact>
     requires fails { IsRefusedFor (moment_of scene.now) fault.LastRackSize }
-    ensures { IfSome result (IsTrue (moment_of scene.now)) }
+    ensures told { IfSome result (IsTrue (moment_of scene.now)) }
+    ensures named { says fault.LastRackSize result ≡ true }
 {
     let EventKind::LastRack(tiles) = &scene.event.kind else {
         return None;

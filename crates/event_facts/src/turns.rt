@@ -1,10 +1,12 @@
 //! Whose turn it is, and whether there are any more.
-ghost use Rattle.std.specs.Prelude.{◌≡◌, false, true, IfSome};
+ghost use Rattle.std.specs.Prelude.{◌≡◌, false, true, None, IfSome};
 ghost use Rattle.game_turns.specs.Tallies.{is_last_rack};
+ghost use Rattle.game_turns.specs.Seats.{side_of};
 ghost use Rattle.game_turns.specs.declared.faults.RuleFault.TheVariants as fault;
 ghost use Rattle.game_turns.specs.Machines.{state_of};
 ghost use Rattle.event_facts.specs.Moments.{moment_of, IsRefusedFor};
 ghost use Rattle.event_facts.specs.Facts.{IsTrue};
+ghost use Rattle.event_facts.specs.FaultFacts.{is_fact_of, says};
 
 use crate::facts::Fact;
 use crate::scenes::Scene;
@@ -15,7 +17,8 @@ use gcg_read::{EventKind, Seat};
 fn others_line(scene: &Scene<'_>) -> Option<Fact>
     requires fails { IsRefusedFor (moment_of scene.now) fault.NotYourTurn }
     requires rack { is_last_rack scene.now.event.now.kind ≡ true }
-    ensures { IfSome result (IsTrue (moment_of scene.now)) }
+    ensures told { IfSome result (IsTrue (moment_of scene.now)) }
+    ensures named { says fault.NotYourTurn result ≡ true }
 {
     let out = scene.machine.out()?;
     Some(Fact::OthersLine {
@@ -35,7 +38,8 @@ fn is_last_rack(kind: &EventKind) -> bool
 #[tactic(auto, using(crate::proofs::Because::turn_of_other))]
 pub(crate) fn not_your_turn(scene: &Scene<'_>) -> Option<Fact>
     requires fails { IsRefusedFor (moment_of scene.now) fault.NotYourTurn }
-    ensures { IfSome result (IsTrue (moment_of scene.now)) }
+    ensures told { IfSome result (IsTrue (moment_of scene.now)) }
+    ensures named { says fault.NotYourTurn result ≡ true }
 {
     if is_last_rack(&scene.event.kind) {
         return others_line(scene);
@@ -46,45 +50,59 @@ pub(crate) fn not_your_turn(scene: &Scene<'_>) -> Option<Fact>
     })
 }
 
-/// That a player has lost the points of a rack, if this is so.
-fn rack_lost(scene: &Scene<'_>, player: Seat) -> Option<Fact>
-    requires { (state_of scene.now.machine.now).complete ≡ false }
-    ensures { IfSome result (IsTrue (moment_of scene.now)) }
+/// The player who has lost the points of a rack, if turns are over and no player is out.
+fn loser(scene: &Scene<'_>) -> Seat
+    requires fails { IsRefusedFor (moment_of scene.now) fault.GameOver }
+    requires running { (state_of scene.now.machine.now).complete ≡ false }
+    requires none { (state_of scene.now.machine.now).out ≡ None }
+    ensures { (side_of (state_of scene.now.machine.now).sides result).ended ≡ true }
 {
-    if !scene.machine.has_ended(player) {
-        return None;
+    let player = scene.event.player;
+    if scene.machine.has_ended(player) {
+        return player;
     }
-    Some(Fact::RackLost {
+    player.other()
+}
+
+/// That a player has lost the points of a rack, if turns are over and no player is out.
+fn rack_lost(scene: &Scene<'_>) -> Fact
+    requires fails { IsRefusedFor (moment_of scene.now) fault.GameOver }
+    requires running { (state_of scene.now.machine.now).complete ≡ false }
+    requires none { (state_of scene.now.machine.now).out ≡ None }
+    ensures told { IsTrue (moment_of scene.now) result }
+    ensures named { is_fact_of fault.GameOver result ≡ true }
+{
+    let player = loser(scene);
+    Fact::RackLost {
         player,
         holder: player.other(),
-    })
+    }
 }
 
 /// Why there are no more turns, and what is missing.
 pub(crate) fn game_over(scene: &Scene<'_>) -> Option<Fact>
-    ensures { IfSome result (IsTrue (moment_of scene.now)) }
+    requires fails { IsRefusedFor (moment_of scene.now) fault.GameOver }
+    ensures told { IfSome result (IsTrue (moment_of scene.now)) }
+    ensures named { says fault.GameOver result ≡ true }
 {
     if scene.machine.finished() {
         return Some(Fact::Complete);
     }
-    if let Some(out) = scene.machine.out() {
-        return Some(Fact::Out {
+    match scene.machine.out() {
+        Some(out) => Some(Fact::Out {
             out,
             holder: out.other(),
-        });
+        }),
+        None => Some(rack_lost(scene)),
     }
-    let player = scene.event.player;
-    if scene.machine.has_ended(player) {
-        return rack_lost(scene, player);
-    }
-    rack_lost(scene, player.other())
 }
 
 /// Why no last rack is due.
 #[tactic(auto, using(crate::proofs::Because::none_out, crate::proofs::Because::turns_left))]
 pub(crate) fn not_over(scene: &Scene<'_>) -> Option<Fact>
     requires fails { IsRefusedFor (moment_of scene.now) fault.NotOver }
-    ensures { IfSome result (IsTrue (moment_of scene.now)) }
+    ensures told { IfSome result (IsTrue (moment_of scene.now)) }
+    ensures named { says fault.NotOver result ≡ true }
 {
     Some(Fact::NoRackDue {
         limit: scene.rules.zero_limit as usize,

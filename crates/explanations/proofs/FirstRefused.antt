@@ -186,6 +186,16 @@ whole_allowed rules list written walk place machine w none within game =
     let allowed : IsToldRefusal rules list written None = subst (IsToldRefusal rules list written) none w.is.refused in
     (game w.right w.is ∙ ap (λ (events : List Event). tally_at rules events place) (w.is.unchanged none).0, λ k below. allowed k (omega (arith, below, within)))
 
+-- and each event has a row
+pub rows_reach : (rules : Rules) (list : List (List ℕ)) (written : List Event) (walk : Walk) (place : ℕ) → IsWalkOf rules list written walk → walk.refused ≡ None
+    → place < length written → length walk.rows.items < place → ⊥
+rows_reach rules list written walk place w none within short =
+    let is = w.is in
+    let size = is.rows.as_many in
+    let ends : EndsAt rules list written w.right is.end None = subst (EndsAt rules list written w.right is.end) (is.unchanged none).1 is.ends in
+    let all = ends.0 in
+    omega (arith, size, all, within, short)
+
 -- an event before the first refused one
 pub earlier_allowed : (rules : Rules) (list : List (List ℕ)) (written : List Event) (walk : Walk) (refusal : Refusal) (place many : ℕ) (machine : Machine) → IsWalkOf rules list written walk
     → walk.refused ≡ Some refusal → AreRightTo walk.rows.items many → place < many → IsGameAt rules list written walk place machine
@@ -200,7 +210,7 @@ earlier_allowed rules list written walk refusal place many machine w is are belo
 -- the first refused event
 pub first_refused : (rules : Rules) (list : List (List ℕ)) (written : List Event) (walk : Walk) (refusal : Refusal) (place many : ℕ) (machine : Machine) → IsWalkOf rules list written walk
     → walk.refused ≡ Some refusal → AreRightTo walk.rows.items many → many ≡ place → IsGameAt rules list written walk place machine
-    → (state_of machine ≡ tally_at rules written place) × (fault_at rules list written place ≡ Some refusal.why)
+    → (state_of machine ≡ tally_at rules written place) × (fault_at rules list written place ≡ Some refusal.why) × AreAllowedTo rules list written place
 first_refused rules list written walk refusal place many machine w is are same game =
     let h = refused_walk rules list written walk refusal w is in
     let at = place_of rules list written w.right walk refusal h many are in
@@ -208,6 +218,7 @@ first_refused rules list written walk refusal place many machine w is are same g
     let size = h.is.rows.as_many in (
       game w.right w.is ∙ state_at rules list written w.right walk refusal h place (omega (arith, at, same)) (omega (arith, within, size, same)),
       ap (fault_at rules list written) (sym (at ∙ same)) ∙ h.first.fails,
+      λ k below. h.first.earlier k (omega (arith, at, same, below)),
     )
 
 -- an event after it

@@ -2,3 +2,4 @@ pub mod FirstRefused
 pub mod Passed
 pub mod Refusing
 pub mod Showing
+pub mod Ruling

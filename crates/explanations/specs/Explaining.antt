@@ -1,12 +1,12 @@
 -- What explains an event of a record.
-use Rattle.std.specs.Prelude.{◌≡◌, ◌⊎◌, ℕ, ◌+◌, ◌<◌, List, All, slice_get, Option, Some, None}
+use Rattle.std.specs.Prelude.{◌≡◌, ◌⊎◌, ℕ, ◌+◌, ◌<◌, true, List, [], ◌∷◌, All, length, slice_get, Option, Some, None}
 use Rattle.ref_tiles.specs.declared.tiles.Tile.{Tile}
 use Rattle.ref_tiles.specs.declared.rulebook.Rules.{Rules}
 use Rattle.gcg_read.specs.declared.events.Event.{Event}
 use Rattle.gcg_read.specs.declared.events.EventKind.{EventKind}
 use Rattle.gcg_read.specs.declared.events.EventKind.TheVariants as kind
 use Rattle.game_turns.specs.declared.faults.RuleFault.{RuleFault}
-use Rattle.game_turns.specs.Places.{AreAllowedTo, IsRefusedBefore}
+use Rattle.game_turns.specs.Places.{AreAllowedTo, IsRefusedBefore, fault_at}
 use Rattle.game_turns.specs.Tallies.{is_play}
 use Rattle.game_deal.specs.Recorded.{steps_of}
 use Rattle.game_board.specs.Laying.{board_before, laying_fault}
@@ -16,6 +16,7 @@ use Rattle.event_facts.specs.declared.facts.Fact.TheVariants as fact
 use Rattle.shown_plays.specs.declared.words.ScoredPlay.{ScoredPlay}
 use Rattle.event_facts.specs.Moments.{Moment, IsMomentAt}
 use Rattle.event_facts.specs.Facts.{IsTrue}
+use Rattle.event_facts.specs.FaultFacts.{begin_with}
 use Rattle.event_facts.specs.Racks.{IsRackTrue}
 use Rattle.shown_plays.specs.Words.{IsScoredText}
 use Rattle.shown_plays.specs.Boards.{shown_squares}
@@ -36,6 +37,13 @@ IsTrueBeside rules list events place rest = IsRackTrue rules (steps_of rules eve
 -- a fact is true of the event at a place of a record, counted from 0
 abbrev pub IsTrueAt : Rules → (list : List (List ℕ)) → List Event → (place : ℕ) → Fact → Type 0
 IsTrueAt rules list events place said = ((m : Moment) × IsMomentAt rules list events place m × IsTrue m said) ⊎ IsTrueBeside rules list events place said
+
+-- What the facts about the event at a place have to say. If it is the first event that the rules refuse, they begin with the fact of the fault. If
+-- the rules refuse an earlier one, they say that it was not judged, and nothing else. There is always one.
+pub record SayTheRuling (rules : Rules) (list : List (List ℕ)) (events : List Event) (place : ℕ) (facts : List Fact) : Type 0 where
+  pub refused : (why : RuleFault) → AreAllowedTo rules list events place → fault_at rules list events place ≡ Some why → begin_with why facts ≡ true
+  pub behind : (line : ℕ) (why : RuleFault) → IsRefusedBefore rules list events place line why → facts ≡ fact.NotJudged line ∷ []
+  pub some : 0 < length facts
 
 -- ---- what is shown
 
@@ -74,4 +82,5 @@ pub record ExplainsEvent (rules : Rules) (list : List (List ℕ)) (events : List
   pub stands : slice_get events place ≡ Some event
   pub on_line : x.line ≡ Some event.line
   pub facts : All (IsTrueAt rules list events place) x.facts.items
+  pub ruling : SayTheRuling rules list events place x.facts.items
   pub shown : IsPicture rules list events place event.kind x.picture

@@ -1,9 +1,9 @@
 //! How an event stands in a record, by the walk over it.
-ghost use Rattle.std.specs.Prelude.{◌≡◌, ◌<◌, ℕ, List, length, Some, IsTrue, IsFalse, IfSome};
+ghost use Rattle.std.specs.Prelude.{◌≡◌, ◌<◌, ℕ, List, length, Some, IsTrue, IsFalse};
 ghost use Rattle.ref_tiles.specs.declared.rulebook.Rules.{Rules};
 ghost use Rattle.gcg_read.specs.declared.events.Event.{Event};
 ghost use Rattle.game_rows.specs.Walks.{IsWalkOf};
-ghost use Rattle.explanations.specs.Judging.{AreRightTo, IsJudgedAt};
+ghost use Rattle.explanations.specs.Judging.{AreRightTo, IsJudged};
 
 use game_rows::{Refusal, Row, Walk};
 use game_turns::{Machine, RuleFault};
@@ -44,7 +44,7 @@ fn many_right(rows: &[Row]) -> usize
 fn judged_by<'a>(walk: &'a Walk, refusal: &Refusal, place: usize) -> Option<Judged<'a>>
     requires { walk.now.refused ≡ Some refusal.now }
     ensures { (rules : Rules) (list : List (List ℕ)) (events : List Event) → IsWalkOf rules list events walk.now → place < length events
-        → IfSome result (IsJudgedAt rules list events place) }
+        → IsJudged rules list events place result }
 {
     let right = many_right(walk.rows.as_slice());
     if right < place {
@@ -60,7 +60,7 @@ fn judged_by<'a>(walk: &'a Walk, refusal: &Refusal, place: usize) -> Option<Judg
 /// How the event at a place stands.
 pub(crate) fn judged_at(walk: &Walk, place: usize) -> Option<Judged<'_>>
     ensures { (rules : Rules) (list : List (List ℕ)) (events : List Event) → IsWalkOf rules list events walk.now → place < length events
-        → IfSome result (IsJudgedAt rules list events place) }
+        → IsJudged rules list events place result }
 {
     match &walk.refused {
         None => Some(Judged::Allowed(walk.before(place)?)),

@@ -1,19 +1,21 @@
 //! What is said of an event of a record.
-ghost use Rattle.std.specs.Prelude.{◌≡◌, ◌+◌, ◌<◌, All, Some, IfOk, IfSome, OnOk, drop, length, slice_get};
+ghost use Rattle.std.specs.Prelude.{◌≡◌, ◌+◌, ◌<◌, ◌++◌, ◌∷◌, [], true, All, Some, IfOk, IfSome, OnOk, drop, length, slice_get};
 ghost use Rattle.game_turns.specs.Machines.{state_of};
 ghost use Rattle.game_turns.specs.Tallies.{tally_at};
 ghost use Rattle.game_turns.specs.Places.{AreAllowedTo, IsRefusedBefore, fault_at};
 ghost use Rattle.event_facts.specs.Racks.{IsRackTrue};
 ghost use Rattle.game_turns.specs.declared.faults.RuleFault.{RuleFault};
 ghost use Rattle.game_rows.specs.Walks.{IsWalkOf};
-ghost use Rattle.explanations.specs.Explaining.{IsTrueAt};
+ghost use Rattle.event_facts.specs.declared.facts.Fact.TheVariants as fact;
+ghost use Rattle.event_facts.specs.FaultFacts.{begin_with};
+ghost use Rattle.explanations.specs.Explaining.{IsTrueAt, SayTheRuling};
 
 use crate::judging::{Judged, judged_at};
 use crate::passing::passed_by;
 use call_stages::{Earlier, GameFault};
 use deal_steps::Step;
 use event_facts::{
-    Fact, Scene, dealt_to, left_over, no_deal, rack_too_big, tell_rack_slip, tell_rule_fault,
+    Fact, Scene, dealt_to, left_over, no_deal, rack_too_big, rule_fault_facts, tell_rack_slip,
     tiles_short,
 };
 use game_deal::all_steps;
@@ -103,29 +105,14 @@ fn one_fact(
     fact: Fact,
 ) -> Result<Vec<Fact>, AllocError>
     requires { IsTrueAt sheet.now.rules.now sheet.now.list.now sheet.now.record.now.events place fact }
-    ensures { IfOk result (λ facts. All (IsTrueAt sheet.now.rules.now sheet.now.list.now sheet.now.record.now.events place) facts.items) }
+    ensures told { IfOk result (λ facts. All (IsTrueAt sheet.now.rules.now sheet.now.list.now sheet.now.record.now.events place) facts.items) }
+    ensures are { IfOk result (λ facts. facts.items ≡ fact ∷ []) }
 {
     let _ = sheet;
     let _ = place;
     let mut facts = Vec::new(alloc);
     facts.push(fact)?;
     Ok(facts)
-}
-
-/// The list of a fact that is true of an event, if there is one.
-fn listed(
-    alloc: Global,
-    sheet: &Sheet<'_>,
-    place: usize,
-    fact: Option<Fact>,
-) -> Result<Vec<Fact>, AllocError>
-    requires { IfSome fact (IsTrueAt sheet.now.rules.now sheet.now.list.now sheet.now.record.now.events place) }
-    ensures { IfOk result (λ facts. All (IsTrueAt sheet.now.rules.now sheet.now.list.now sheet.now.record.now.events place) facts.items) }
-{
-    match fact {
-        None => Ok(Vec::new(alloc)),
-        Some(fact) => one_fact(alloc, sheet, place, fact),
-    }
 }
 
 /// Adds a fact that is true of an event.
@@ -137,7 +124,8 @@ fn push_fact(
 ) -> Result<(), AllocError>
     requires told { All (IsTrueAt sheet.now.rules.now sheet.now.list.now sheet.now.record.now.events place) facts.old.items }
     requires holds { IsTrueAt sheet.now.rules.now sheet.now.list.now sheet.now.record.now.events place fact }
-    ensures { OnOk result (All (IsTrueAt sheet.now.rules.now sheet.now.list.now sheet.now.record.now.events place) facts.new.items) }
+    ensures told { OnOk result (All (IsTrueAt sheet.now.rules.now sheet.now.list.now sheet.now.record.now.events place) facts.new.items) }
+    ensures added { OnOk result (facts.new.items ≡ facts.old.items ++ fact ∷ []) }
 {
     let _ = sheet;
     let _ = place;
@@ -160,6 +148,21 @@ fn push_some(
         None => Ok(()),
         Some(fact) => push_fact(facts, sheet, place, fact),
     }
+}
+
+/// Adds that the rules allow an event, if nothing else is said of it.
+#[tactic(auto, using(crate::proofs::Ruling::has_one_more))]
+fn push_allowed(facts: &mut Vec<Fact>, sheet: &Sheet<'_>, place: usize) -> Result<(), AllocError>
+    requires told { All (IsTrueAt sheet.now.rules.now sheet.now.list.now sheet.now.record.now.events place) facts.old.items }
+    requires allowed { AreAllowedTo sheet.now.rules.now sheet.now.list.now sheet.now.record.now.events (place + 1) }
+    ensures told { OnOk result (All (IsTrueAt sheet.now.rules.now sheet.now.list.now sheet.now.record.now.events place) facts.new.items) }
+    ensures some { OnOk result (0 < length facts.new.items) }
+{
+    if facts.is_empty() {
+        push_fact(facts, sheet, place, Fact::Allowed)?;
+        return Ok(());
+    }
+    Ok(())
 }
 
 /// The events after a place.
@@ -237,13 +240,16 @@ fn allowed_facts(
     requires stands { slice_get sheet.now.record.now.events place ≡ Some event.now }
     requires state { state_of machine.now ≡ tally_at sheet.now.rules.now sheet.now.record.now.events place }
     requires allowed { AreAllowedTo sheet.now.rules.now sheet.now.list.now sheet.now.record.now.events (place + 1) }
-    ensures { IfOk result (λ facts. All (IsTrueAt sheet.now.rules.now sheet.now.list.now sheet.now.record.now.events place) facts.items) }
+    ensures told { IfOk result (λ facts. All (IsTrueAt sheet.now.rules.now sheet.now.list.now sheet.now.record.now.events place) facts.items) }
+    ensures some { IfOk result (λ facts. 0 < length facts.items) }
 {
     let Some(fault) = sheet.fault else {
-        return listed(alloc, sheet, place, Some(Fact::Allowed));
+        let facts = one_fact(alloc, sheet, place, Fact::Allowed)?;
+        return Ok(facts);
     };
     let mut facts = rack_slips(alloc, sheet, machine, event, place)?;
     push_rack_facts(alloc, &mut facts, sheet, place, fault)?;
+    push_allowed(&mut facts, sheet, place)?;
     Ok(facts)
 }
 
@@ -261,7 +267,8 @@ fn refused_facts(
     requires stands { slice_get sheet.now.record.now.events place ≡ Some event.now }
     requires state { state_of machine.now ≡ tally_at sheet.now.rules.now sheet.now.record.now.events place }
     requires fails { fault_at sheet.now.rules.now sheet.now.list.now sheet.now.record.now.events place ≡ Some why.now }
-    ensures { IfOk result (λ facts. All (IsTrueAt sheet.now.rules.now sheet.now.list.now sheet.now.record.now.events place) facts.items) }
+    ensures told { IfOk result (λ facts. All (IsTrueAt sheet.now.rules.now sheet.now.list.now sheet.now.record.now.events place) facts.items) }
+    ensures first { IfOk result (λ facts. begin_with why.now facts.items ≡ true) }
 {
     let events = sheet.record.events.as_slice();
     let later = events_behind(events, place);
@@ -273,8 +280,7 @@ fn refused_facts(
         later,
         machine,
     };
-    let mut facts = Vec::new(alloc);
-    tell_rule_fault(alloc, &mut facts, &scene, why)?;
+    let facts = rule_fault_facts(alloc, &scene, why)?;
     Ok(facts)
 }
 
@@ -286,9 +292,10 @@ fn unjudged_facts(
     refused: u32,
 ) -> Result<Vec<Fact>, AllocError>
     requires { (why : RuleFault) × IsRefusedBefore sheet.now.rules.now sheet.now.list.now sheet.now.record.now.events place refused why }
-    ensures { IfOk result (λ facts. All (IsTrueAt sheet.now.rules.now sheet.now.list.now sheet.now.record.now.events place) facts.items) }
+    ensures told { IfOk result (λ facts. All (IsTrueAt sheet.now.rules.now sheet.now.list.now sheet.now.record.now.events place) facts.items) }
+    ensures are { IfOk result (λ facts. facts.items ≡ fact.NotJudged refused ∷ []) }
 {
-    listed(alloc, sheet, place, Some(Fact::NotJudged { refused }))
+    one_fact(alloc, sheet, place, Fact::NotJudged { refused })
 }
 
 /// What is said of the event at a place.
@@ -301,7 +308,8 @@ pub(crate) fn facts_at(
     requires walk { IsWalkOf sheet.now.rules.now sheet.now.list.now sheet.now.record.now.events sheet.now.walk.now }
     requires within { place < length sheet.now.record.now.events }
     requires stands { slice_get sheet.now.record.now.events place ≡ Some event.now }
-    ensures { IfOk result (λ facts. All (IsTrueAt sheet.now.rules.now sheet.now.list.now sheet.now.record.now.events place) facts.items) }
+    ensures told { IfOk result (λ facts. All (IsTrueAt sheet.now.rules.now sheet.now.list.now sheet.now.record.now.events place) facts.items) }
+    ensures ruling { IfOk result (λ facts. SayTheRuling sheet.now.rules.now sheet.now.list.now sheet.now.record.now.events place facts.items) }
 {
     match judged_at(sheet.walk, place) {
         Some(Judged::Allowed(game)) => allowed_facts(alloc, sheet, game, event, place),

@@ -11,7 +11,7 @@ use crate::entries::{Entry, find};
 use call_stages::{Decision, RunFault, read_text, record_from};
 use devices::Input;
 use game_rows::audit;
-use game_sheets::WrongNumber;
+use game_sheets::{Standing, WrongNumber, standing_in};
 use gcg_read::{MAX_BYTES, Record};
 use gcg_write::law_of_other_points;
 use lex_check::Checked;
@@ -27,6 +27,10 @@ pub struct Audit {
     pub wrong: Vec<WrongNumber>,
     /// The entry of the corrected record, or of a record that is corrected as far as the rules allow its events.
     pub entry: Entry,
+    /// Who is ahead by the totals of this record.
+    pub ahead: Standing,
+    /// Who is ahead by the totals of the sheet.
+    pub written: Standing,
 }
 
 /// The audit of a record that was read from a text.
@@ -41,6 +45,7 @@ fn audit_record(
     ensures audit { IfOk result (IsAudit rules.now (pairs.list_in pair.now) game) }
     ensures points { IfOk result (λ a. KeepPoints game.events a.entry.record.events) }
 {
+    let written = standing_in(game.events.as_slice());
     let mut right = game;
     let audited = audit(alloc, rules, pair.list(), &mut right.events)?;
     let refused = audited.walk.refused_for_good();
@@ -50,10 +55,13 @@ fn audit_record(
         finding: found.finding,
         unlisted: found.unlisted,
     };
+    let ahead = standing_in(entry.record.events.as_slice());
     Ok(Audit {
         text,
         wrong: audited.wrong,
         entry,
+        ahead,
+        written,
     })
 }
 

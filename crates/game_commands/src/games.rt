@@ -2,12 +2,12 @@
 ghost use Rattle.std.specs.Prelude.{IfOk};
 ghost use Rattle.devices.specs.Devices.{HasRoom};
 
+use asked_racks::rack_in_capitals;
 use call_stages::{RulesInput, RulesSource, RunFault, Verdict};
 use command_files::{
     InputFile, Inputs, LexiconFile, RulesFile, STANDARD_OUTPUT, SheetFile, Source, UsedOutput,
     Words, advise_bad_record, advise_no_game, advise_unread, give_hint, open_inputs, open_rules,
-    open_sheet, rack_in_capitals, rules_front, tell_others, used_rules, used_source, verdict_of,
-    watched,
+    open_sheet, rules_front, tell_others, used_rules, used_source, verdict_of, watched,
 };
 use command_line::{GameFiles, PlaysAsked};
 use devices::{FromRead, FromWrite, Input, Output};

@@ -9,11 +9,11 @@ use crate::showing::Shown;
 use crate::sums::push_sum;
 use explanations::Picture;
 use game_case::Finding;
+use game_sheets::Standing;
 use gcg_read::{Event, Points, Seat};
 use name_texts::Encoding;
 use page_pieces::{PageText, Piece};
 use record_words::Note;
-use score_sheets::Standing;
 use std::alloc::AllocError;
 
 /// Appends a last written total.
@@ -90,8 +90,20 @@ fn result_words(finding: &Finding) -> [&'static str; 4] {
     }
 }
 
+/// Appends who is ahead by the right numbers, in the words that are given, or if there are none, what the totals say as they are written.
+fn push_result(page: &mut PageText, shown: &Shown<'_>, lead: &[u8]) -> Result<(), AllocError> {
+    if lead.is_empty() {
+        return push_written_result(page, shown);
+    }
+    page.push(&[
+        Piece::Markup("<p class=\"result\">"),
+        Piece::Recorded(lead.trim_ascii_end(), shown.encoding),
+        Piece::Markup(".</p>\n"),
+    ])
+}
+
 /// Appends who won, and by how many points; or that the game is unfinished.
-fn push_result(page: &mut PageText, shown: &Shown<'_>) -> Result<(), AllocError> {
+fn push_written_result(page: &mut PageText, shown: &Shown<'_>) -> Result<(), AllocError> {
     let words = result_words(&shown.finding);
     page.push(&[Piece::Markup("<p class=\"result\">")])?;
     match shown.sheet.standing {
@@ -277,11 +289,12 @@ pub fn push_banner<'n, 'a>(
     shown: &'n Shown<'a>,
     reason: &[u8],
     likely: &[u8],
+    lead: &[u8],
 ) -> Result<&'n [Note<'a>], AllocError> {
     page.push(&[Piece::Markup("<header>\n")])?;
     push_back(page, shown.up)?;
     push_names(page, shown)?;
-    push_result(page, shown)?;
+    push_result(page, shown, lead)?;
     let notes = push_words(page, shown)?;
     push_verdict(page, shown, reason, likely)?;
     page.push(&[Piece::Markup("</header>\n")])?;

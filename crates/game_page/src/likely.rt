@@ -63,13 +63,13 @@ pub(crate) fn likely_of(repair: Option<&Repair>) -> Option<Likely>
     }
 }
 
-/// Appends the words of the likely repair, if there is one.
+/// Appends the words of the likely repair, if there are some.
 pub(crate) fn push_likely_words(
     page: &mut PageText,
     shown: &Shown<'_>,
     words: &[u8],
 ) -> Result<(), AllocError> {
-    if shown.likely.is_none() {
+    if words.is_empty() {
         return Ok(());
     }
     page.push(&[

@@ -153,8 +153,8 @@ pub fn shown_of<'a>(alloc: Global, contents: &Contents<'a>) -> Result<Option<Sho
     Ok(Some(shown))
 }
 
-/// Appends the page of a game: what it shows, which [`shown_of`] gives, with the sentences that explain the verdict (`reason`) and those of the likely
-/// repair (`likely`).
+/// Appends the page of a game: what it shows, which [`shown_of`] gives, with the sentences that explain the verdict (`reason`), those of the likely
+/// repair (`likely`), and who is ahead by the right numbers (`lead`), if that is not what the sheet says.
 ///
 /// It fails only if memory runs out.
 pub fn push_page(
@@ -162,9 +162,10 @@ pub fn push_page(
     shown: &Shown<'_>,
     reason: &[u8],
     likely: &[u8],
+    lead: &[u8],
 ) -> Result<(), AllocError> {
     push_head(page, shown)?;
-    let notes = push_banner(page, shown, reason, likely)?;
+    let notes = push_banner(page, shown, reason, likely, lead)?;
     page.push(&[Piece::Markup("<main>\n")])?;
     push_end(page, shown)?;
     page.push(&[Piece::Markup("<section class=\"events\">\n<h2>The sheet</h2>\n")])?;

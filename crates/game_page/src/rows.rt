@@ -197,22 +197,30 @@ fn push_words(page: &mut PageText, words: &[SpelledWord]) -> Result<(), AllocErr
 fn push_should_be(
     page: &mut PageText,
     name: &'static str,
-    right: Option<Points>,
+    right: Option<i32>,
 ) -> Result<(), AllocError> {
     match right {
         Some(right) => page.push(&[
             Piece::Markup(name),
-            Piece::Number(i64::from(right.value())),
+            Piece::Number(i64::from(right)),
             Piece::Markup(" "),
         ]),
         None => Ok(()),
     }
 }
 
+/// The value of a number of points, if there is one.
+fn value_of(points: Option<Points>) -> Option<i32> {
+    match points {
+        Some(points) => Some(points.value()),
+        None => None,
+    }
+}
+
 /// Appends what the score and the total of an event should be, if they are wrong.
 fn push_right(page: &mut PageText, row: &SheetRow) -> Result<(), AllocError> {
     page.push(&[Piece::Markup("<td class=\"sb\">")])?;
-    push_should_be(page, "score ", row.score)?;
+    push_should_be(page, "score ", value_of(row.score))?;
     push_should_be(page, "total ", row.total)?;
     page.push(&[Piece::Markup("</td>")])
 }

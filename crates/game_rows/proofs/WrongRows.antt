@@ -1,16 +1,17 @@
 -- The wrong numbers of a sheet, from the written numbers.
-use Rattle.std.proofs.Common.{◌≡◌, ℕ, ℤ, zero, suc, ◌+◌, ◌<◌, List, [], ◌∷◌, ◌++◌, length, take, get_or, slice_get, Option, Some, refl, sym, ap, ◌∙◌, subst, arith}
+use Rattle.std.proofs.Common.{◌≡◌, ℕ, ℤ, zero, suc, ◌+◌, ◌<◌, List, [], ◌∷◌, ◌++◌, length, take, get_or, slice_get, Bool, Option, Some, refl, sym, ap, ◌∙◌, subst, arith}
 use Rattle.std.specs.Option.{unwrap_or}
 use Rattle.std.specs.List.{flat_map, range_with_len}
-use Rattle.std.specs.Prelude.{min, pos}
+use Rattle.std.specs.Prelude.{min, pos, ◌+ℤ◌, false, if◌then◌else◌}
 use Rattle.std.proofs.lemmas.List.{append_assoc, append-nil, take_all}
 use Rattle.std.proofs.lemmas.Option.{slice_get_read, same_Some, slice_get_within, get_or_from_slice_get}
 use Rattle.gcg_read.specs.declared.events.Event.{Event}
 use Rattle.gcg_read.specs.declared.events.Seat.{Seat}
 use Rattle.gcg_read.specs.declared.events.Seat.TheVariants.{First, Second}
 use Rattle.game_sheets.specs.declared.wrong_numbers.WrongNumber.{WrongNumber}
+use Rattle.game_sheets.specs.declared.wrong_numbers.WrongNumber.TheVariants as wrong_number
 use Rattle.game_sheets.specs.LastTotals.{last_total}
-use Rattle.game_sheets.specs.WrongNumbers.{had_before, wrong_score, wrong_sum, wrong_of, wrong_at, wrong_lines, wrong_total_of, wrong_total, wrong_totals}
+use Rattle.game_sheets.specs.WrongNumbers.{had_before, known_total, is_right_sum, wrong_score, wrong_sum, wrong_of, wrong_at, wrong_lines, is_told, wrong_total_of, wrong_total, all_wrong}
 use Rattle.game_sheets.proofs.Totals.{total_more}
 use Rattle.game_rows.specs.declared.numbers.Numbers.{Numbers}
 use Rattle.game_rows.specs.declared.totals.Totals.{Totals}
@@ -56,24 +57,33 @@ totals_more right numbers place e n old new in_numbers in_right of_e of_n has fi
       second = second ∙ total_more Second events place x old.second within read has.second;
     }
 
-wrong_here : (written right : List Event) (place : ℕ) (e r : Event) → slice_get written place ≡ Some e → slice_get right place ≡ Some r
-    → wrong_at written right place ≡ wrong_score e r ++ wrong_sum (had_before written e.player place) e
-wrong_here written right place e r of_e of_r =
-    ap (λ o. wrong_of written place o (slice_get right place)) of_e ∙ ap (wrong_of written place (Some e)) of_r
+wrong_here : (stop : Option ℕ) (written right : List Event) (place : ℕ) (e r : Event) → slice_get written place ≡ Some e → slice_get right place ≡ Some r
+    → wrong_at stop written right place ≡ wrong_score e r ++ wrong_sum (had_before written e.player place) e (known_total stop r)
+wrong_here stop written right place e r of_e of_r =
+    ap (λ o. wrong_of stop written place o (slice_get right place)) of_e ∙ ap (wrong_of stop written place (Some e)) of_r
 
 -- the score and then the sum
-pub both_wrong : (right : List Event) (numbers : List Numbers) (place : ℕ) (e : Event) (n : Numbers) (totals : Totals) (items first second : List WrongNumber) (had : ℤ)
+pub both_wrong : (stop : Option ℕ) (right : List Event) (numbers : List Numbers) (place : ℕ) (e : Event) (n : Numbers) (totals : Totals) (items first second : List WrongNumber) (had : ℤ) (due : Option ℤ)
     → place < length numbers → place < length right → e ≡ get_or right place e → n ≡ get_or numbers place n → HasTotals (take place (renumbered right numbers)) totals
-    → first ≡ items ++ wrong_score (with_numbers e n) e → had ≡ had_of totals e.player → second ≡ first ++ wrong_sum had (with_numbers e n)
-    → second ≡ items ++ wrong_at (renumbered right numbers) right place
-both_wrong right numbers place e n totals items first second had in_numbers in_right of_e of_n has made same last =
+    → first ≡ items ++ wrong_score (with_numbers e n) e → had ≡ had_of totals e.player → due ≡ known_total stop e → second ≡ first ++ wrong_sum had (with_numbers e n) due
+    → second ≡ items ++ wrong_at stop (renumbered right numbers) right place
+both_wrong stop right numbers place e n totals items first second had due in_numbers in_right of_e of_n has made same is_due last =
     let events = renumbered right numbers in
     let x = with_numbers e n in
+    let known = known_total stop e in
     let of_right = slice_get_read right (length right) place e refl in_right of_e in
     let there = renumbered_there right numbers place e n of_right (slice_get_read numbers (length numbers) place n refl in_numbers of_n) in
-    last ∙ ap (λ k. first ++ wrong_sum k x) (same ∙ had_there events place totals e.player has) ∙ ap (λ xs. xs ++ wrong_sum (had_before events e.player place) x) made
-    ∙ append_assoc items (wrong_score x e) (wrong_sum (had_before events e.player place) x)
-    ∙ ap (λ xs. items ++ xs) (sym (wrong_here events right place x e there of_right))
+    last ∙ ap (λ d. first ++ wrong_sum had x d) is_due ∙ ap (λ k. first ++ wrong_sum k x known) (same ∙ had_there events place totals e.player has)
+    ∙ ap (λ xs. xs ++ wrong_sum (had_before events e.player place) x known) made
+    ∙ append_assoc items (wrong_score x e) (wrong_sum (had_before events e.player place) x known)
+    ∙ ap (λ xs. items ++ xs) (sym (wrong_here stop events right place x e there of_right))
+
+-- a total that is not right
+pub sum_pushed : (items new : List WrongNumber) (e : Event) (had : ℤ) (right : Option ℤ) (test : Bool) (h w s : ℤ) → h ≡ had → test ≡ is_right_sum e.total (h +ℤ e.score) right → test ≡ false
+    → w ≡ e.total → s ≡ had +ℤ e.score → new ≡ items ++ wrong_number.Sum e.line w s right ∷ [] → new ≡ items ++ wrong_sum had e right
+sum_pushed items new e had right test h w s same is fails of_w of_s made =
+    made ∙ ap (λ x. items ++ wrong_number.Sum e.line x s right ∷ []) of_w ∙ ap (λ x. items ++ wrong_number.Sum e.line e.total x right ∷ []) of_s
+    ∙ ap (λ b. items ++ (if b then [] else (wrong_number.Sum e.line e.total (had +ℤ e.score) right ∷ []))) (sym fails ∙ is ∙ ap (λ x. is_right_sum e.total (x +ℤ e.score) right) same)
 
 -- ---- one more place
 
@@ -84,26 +94,26 @@ range_last {A} f a (suc n) =
     ∙ ap (λ k. (f a ++ flat_map f (range_with_len (a + 1) n)) ++ f k) (omega arith)
 
 -- what is wrong before a place
-abbrev pub wrong_to : (written right : List Event) → (place : ℕ) → List WrongNumber
-wrong_to written right place = flat_map (wrong_at written right) (range_with_len 0 place)
+abbrev pub wrong_to : (stop : Option ℕ) → (written right : List Event) → (place : ℕ) → List WrongNumber
+wrong_to stop written right place = flat_map (wrong_at stop written right) (range_with_len 0 place)
 
-pub wrong_more : (written right : List Event) (place : ℕ) (front old new : List WrongNumber) → old ≡ front ++ wrong_to written right place
-    → new ≡ old ++ wrong_at written right place → new ≡ front ++ wrong_to written right (place + 1)
-wrong_more written right place front old new so_far added =
+pub wrong_more : (stop : Option ℕ) (written right : List Event) (place : ℕ) (front old new : List WrongNumber) → old ≡ front ++ wrong_to stop written right place
+    → new ≡ old ++ wrong_at stop written right place → new ≡ front ++ wrong_to stop written right (place + 1)
+wrong_more stop written right place front old new so_far added =
     let step : place + 1 ≡ suc place = omega arith in
     let start : place ≡ 0 + place = omega arith in
-    added ∙ ap (λ xs. xs ++ wrong_at written right place) so_far ∙ append_assoc front (wrong_to written right place) (wrong_at written right place)
-    ∙ ap (λ k. front ++ (wrong_to written right place ++ wrong_at written right k)) start
-    ∙ ap (λ xs. front ++ xs) (sym (range_last (wrong_at written right) 0 place) ∙ ap (wrong_to written right) (sym step))
+    added ∙ ap (λ xs. xs ++ wrong_at stop written right place) so_far ∙ append_assoc front (wrong_to stop written right place) (wrong_at stop written right place)
+    ∙ ap (λ k. front ++ (wrong_to stop written right place ++ wrong_at stop written right k)) start
+    ∙ ap (λ xs. front ++ xs) (sym (range_last (wrong_at stop written right) 0 place) ∙ ap (wrong_to stop written right) (sym step))
 
 -- and after the last
-pub all_wrong : (right : List Event) (numbers : List Numbers) (place : ℕ) (front new : List WrongNumber) → new ≡ front ++ wrong_to (renumbered right numbers) right place → place ≡ length right
-    → new ≡ front ++ wrong_lines (renumbered right numbers) right
+pub lines_wrong : (stop : Option ℕ) (right : List Event) (numbers : List Numbers) (place : ℕ) (front new : List WrongNumber) → new ≡ front ++ wrong_to stop (renumbered right numbers) right place
+    → place ≡ length right → new ≡ front ++ wrong_lines stop (renumbered right numbers) right
 unfolding wrong_lines
-all_wrong right numbers place front new so_far last =
+lines_wrong stop right numbers place front new so_far last =
     let long = renumbered_long right numbers in
     let all : place ≡ min (length (renumbered right numbers)) (length right) = omega (arith, long, last) in
-    so_far ∙ ap (λ k. front ++ wrong_to (renumbered right numbers) right k) all
+    so_far ∙ ap (λ k. front ++ wrong_to stop (renumbered right numbers) right k) all
 
 pub all_totals : (right : List Event) (numbers : List Numbers) (place : ℕ) (totals : Totals) → HasTotals (take place (renumbered right numbers)) totals → place ≡ length right
     → HasTotals (renumbered right numbers) totals
@@ -113,15 +123,20 @@ all_totals right numbers place totals has last =
 
 -- ---- the last totals
 
-total_wrong : (player : Seat) (written right : List Event) (totals : Totals) (o : Option ℤ) → HasTotals written totals → o ≡ last_total player right
-    → wrong_total_of player (total_of totals player) o ≡ wrong_total player written right
-total_wrong First written right totals o has of_right = ap (λ t. wrong_total_of First t o) has.first ∙ ap (wrong_total_of First (last_total First written)) of_right
-total_wrong Second written right totals o has of_right = ap (λ t. wrong_total_of Second t o) has.second ∙ ap (wrong_total_of Second (last_total Second written)) of_right
+total_wrong : (player : Seat) (lines : List WrongNumber) (written right : List Event) (totals : Totals) (told : Bool) (o : Option ℤ) → HasTotals written totals → told ≡ is_told player right lines
+    → o ≡ last_total player right → wrong_total_of player told (total_of totals player) o ≡ wrong_total player lines written right
+total_wrong First lines written right totals told o has of_told of_right =
+    ap (λ b. wrong_total_of First b totals.first o) of_told ∙ ap (λ t. wrong_total_of First (is_told First right lines) t o) has.first
+    ∙ ap (wrong_total_of First (is_told First right lines) (last_total First written)) of_right
+total_wrong Second lines written right totals told o has of_told of_right =
+    ap (λ b. wrong_total_of Second b totals.second o) of_told ∙ ap (λ t. wrong_total_of Second (is_told Second right lines) t o) has.second
+    ∙ ap (wrong_total_of Second (is_told Second right lines) (last_total Second written)) of_right
 
-pub both_totals : (written right : List Event) (totals : Totals) (a b : Option ℤ) (items first second : List WrongNumber) → HasTotals written totals → a ≡ last_total First right → b ≡ last_total Second right
-    → first ≡ items ++ wrong_total_of First (total_of totals First) a → second ≡ first ++ wrong_total_of Second (total_of totals Second) b
-    → second ≡ items ++ wrong_totals written right
-both_totals written right totals a b items first second has of_a of_b made last =
-    last ∙ ap (λ xs. first ++ xs) (total_wrong Second written right totals b has of_b)
-    ∙ ap (λ xs. xs ++ wrong_total Second written right) (made ∙ ap (λ xs. items ++ xs) (total_wrong First written right totals a has of_a))
-    ∙ append_assoc items (wrong_total First written right) (wrong_total Second written right)
+pub both_totals : (written right : List Event) (totals : Totals) (told_first told_second : Bool) (a b : Option ℤ) (items first second : List WrongNumber) → HasTotals written totals
+    → told_first ≡ is_told First right items → told_second ≡ is_told Second right items → a ≡ last_total First right → b ≡ last_total Second right
+    → first ≡ items ++ wrong_total_of First told_first (total_of totals First) a → second ≡ first ++ wrong_total_of Second told_second (total_of totals Second) b
+    → second ≡ all_wrong items written right
+both_totals written right totals told_first told_second a b items first second has of_first of_second of_a of_b made last =
+    last ∙ ap (λ xs. first ++ xs) (total_wrong Second items written right totals told_second b has of_second of_b)
+    ∙ ap (λ xs. xs ++ wrong_total Second items written right) (made ∙ ap (λ xs. items ++ xs) (total_wrong First items written right totals told_first a has of_first of_a))
+    ∙ append_assoc items (wrong_total First items written right) (wrong_total Second items written right)

@@ -20,6 +20,11 @@ abbrev pub refusal_of : Option Stop → Option Refusal
 refusal_of (Some stop) = Some stop.refusal
 refusal_of None = None
 
+-- the line of the event at which a correction stops
+abbrev pub stop_line : Option Stop → Option ℕ
+stop_line None = None
+stop_line (Some stop) = Some stop.refusal.line
+
 -- the first event that is refused, or that each is allowed
 abbrev pub IsToldRefusal : Rules → (list : List (List ℕ)) → List Event → Option Refusal → Type 0
 IsToldRefusal rules list events None = AreAllowed rules list events

@@ -5,6 +5,7 @@ ghost use Rattle.game_sheets.specs.Corrections.{KeepPoints};
 ghost use Rattle.game_rows.specs.Walks.{IsWalk};
 
 use crate::numbers::numbers_of;
+use crate::refusals::stop_line;
 use crate::totals::Totals;
 use crate::walking::{Walk, walk_and_correct};
 use crate::wrong_lines::{push_lines, push_totals};
@@ -44,6 +45,7 @@ pub fn audit(
     push_lines(
         &mut wrong,
         &mut totals,
+        stop_line(&walk.stopped),
         numbers.as_slice(),
         events.as_slice(),
     )?;

@@ -15,7 +15,7 @@ mod walking;
 mod wrong_lines;
 
 pub use auditing::{Audited, audit};
-pub use numbers::{Numbers, numbers_of, renumber};
+pub use numbers::{Numbers, numbers_in, numbers_of, renumber};
 pub use refusals::{Refusal, Stop};
 pub use rows::Row;
 pub use walking::{Walk, walk_and_correct, walk_as_written};

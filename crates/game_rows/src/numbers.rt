@@ -15,7 +15,7 @@ pub struct Numbers {
 }
 
 /// The numbers of an event.
-pub(crate) fn numbers_in(event: &Event) -> Numbers
+pub fn numbers_in(event: &Event) -> Numbers
     ensures { result ≡ numbers_in event.now }
 {
     Numbers {

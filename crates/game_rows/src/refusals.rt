@@ -1,6 +1,6 @@
 //! Events that are refused.
 ghost use Rattle.std.specs.Prelude.{◌≡◌};
-ghost use Rattle.game_rows.specs.Refusals.{first_refusal};
+ghost use Rattle.game_rows.specs.Refusals.{first_refusal, stop_line};
 
 use crate::numbers::Numbers;
 use game_turns::RuleFault;
@@ -31,5 +31,15 @@ pub fn first_refusal(earlier: Option<Refusal>, line: u32, why: Option<RuleFault>
         (Some(refusal), _) => Some(refusal),
         (None, Some(why)) => Some(Refusal { line, why }),
         (None, None) => None,
+    }
+}
+
+/// The line of the event at which a correction stops.
+pub(crate) fn stop_line(stopped: &Option<Stop>) -> Option<u32>
+    ensures { result ≡ stop_line stopped.now }
+{
+    match stopped {
+        Some(stop) => Some(stop.refusal.line),
+        None => None,
     }
 }

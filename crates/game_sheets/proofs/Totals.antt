@@ -1,10 +1,10 @@
--- The last total of a player, event by event.
+-- The last total of a player and its line, event by event.
 use Rattle.std.proofs.Common.{◌≡◌, ℕ, ℤ, ◌+◌, ◌<◌, true, false, if◌then◌else◌, List, [], ◌∷◌, ◌++◌, length, take, get_or, Option, Some, None, refl, sym, ap, ◌∙◌}
 use Rattle.std.proofs.lemmas.List.{take_more}
 use Rattle.gcg_read.specs.Players.{same_seat}
 use Rattle.gcg_read.specs.declared.events.Event.{Event}
 use Rattle.gcg_read.specs.declared.events.Seat.{Seat}
-use Rattle.game_sheets.specs.LastTotals.{later, last_total}
+use Rattle.game_sheets.specs.LastTotals.{later, last_total, later_line, last_line}
 
 later_none : (one : Option ℤ) → later one None ≡ one
 later_none None = refl
@@ -36,3 +36,28 @@ last_own player events earlier e split own =
 pub last_other : (player : Seat) (events earlier : List Event) (e : Event) → events ≡ earlier ++ e ∷ [] → same_seat e.player player ≡ false → last_total player earlier ≡ last_total player events
 last_other player events earlier e split other =
     ap (λ b. later (if b then Some e.total else None) (last_total player earlier)) (sym other) ∙ sym (total_behind player earlier e) ∙ ap (last_total player) (sym split)
+
+-- ---- the line
+
+later_line_none : (one : Option ℕ) → later_line one None ≡ one
+later_line_none None = refl
+later_line_none (Some line) = refl
+
+later_lines : (one two three : Option ℕ) → later_line one (later_line two three) ≡ later_line (later_line one two) three
+later_lines None two three = refl
+later_lines (Some line) two three = refl
+
+line_behind : (player : Seat) (events : List Event) (e : Event) → last_line player (events ++ e ∷ []) ≡ later_line (last_line player (e ∷ [])) (last_line player events)
+line_behind player [] e = sym (later_line_none (last_line player (e ∷ [])))
+line_behind player (d ∷ events) e =
+    ap (λ t. later_line t (last_line player (d ∷ []))) (line_behind player events e) ∙ sym (later_lines (last_line player (e ∷ [])) (last_line player events) (last_line player (d ∷ [])))
+
+-- the last event is the player's
+pub line_own : (player : Seat) (events earlier : List Event) (e : Event) → events ≡ earlier ++ e ∷ [] → same_seat e.player player ≡ true → Some e.line ≡ last_line player events
+line_own player events earlier e split own =
+    ap (λ b. later_line (if b then Some e.line else None) (last_line player earlier)) (sym own) ∙ sym (line_behind player earlier e) ∙ ap (last_line player) (sym split)
+
+-- the last event is the other player's
+pub line_other : (player : Seat) (events earlier : List Event) (e : Event) → events ≡ earlier ++ e ∷ [] → same_seat e.player player ≡ false → last_line player earlier ≡ last_line player events
+line_other player events earlier e split other =
+    ap (λ b. later_line (if b then Some e.line else None) (last_line player earlier)) (sym other) ∙ sym (line_behind player earlier e) ∙ ap (last_line player) (sym split)

@@ -1,5 +1,5 @@
--- The last total of a player.
-use Rattle.std.specs.Prelude.{ℤ, List, [], ◌∷◌, Option, Some, None, if◌then◌else◌}
+-- The last total of a player, and its line.
+use Rattle.std.specs.Prelude.{ℕ, ℤ, List, [], ◌∷◌, Option, Some, None, if◌then◌else◌}
 use Rattle.gcg_read.specs.Players.{same_seat}
 use Rattle.gcg_read.specs.declared.events.Seat.{Seat}
 use Rattle.gcg_read.specs.declared.events.Event.{Event}
@@ -13,3 +13,13 @@ later None earlier = earlier
 abbrev pub last_total : Seat → List Event → Option ℤ
 last_total player [] = None
 last_total player (e ∷ events) = later (last_total player events) (if same_seat e.player player then Some e.total else None)
+
+-- the later of two lines, if there are both
+abbrev pub later_line : Option ℕ → Option ℕ → Option ℕ
+later_line (Some line) earlier = Some line
+later_line None earlier = earlier
+
+-- the line of a player's last event
+abbrev pub last_line : Seat → List Event → Option ℕ
+last_line player [] = None
+last_line player (e ∷ events) = later_line (last_line player events) (if same_seat e.player player then Some e.line else None)

@@ -1,6 +1,6 @@
-//! The last total of a player.
+//! The last total of a player, and its line.
 ghost use Rattle.std.specs.Prelude.{◌≡◌};
-ghost use Rattle.game_sheets.specs.LastTotals.{last_total};
+ghost use Rattle.game_sheets.specs.LastTotals.{last_total, last_line};
 
 use gcg_read::{Event, Points, Seat, same_seat};
 
@@ -15,6 +15,21 @@ pub fn last_total(events: &[Event], player: Seat) -> Option<Points>
     while let Some((event, earlier)) = left.split_last() {
         if same_seat(event.player, player) {
             return Some(event.total);
+        }
+        left = earlier;
+    }
+    None
+}
+
+/// The line of a player's last event, or none if no event is the player's.
+#[tactic(auto, using(crate::proofs::Totals::line_own, crate::proofs::Totals::line_other))]
+pub(crate) fn last_line(events: &[Event], player: Seat) -> Option<u32>
+    ensures { result ≡ last_line player events.now }
+{
+    let mut left = events;
+    while let Some((event, earlier)) = left.split_last() {
+        if same_seat(event.player, player) {
+            return Some(event.line);
         }
         left = earlier;
     }

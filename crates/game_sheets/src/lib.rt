@@ -5,10 +5,14 @@ mod last_totals;
 mod laws;
 mod mending;
 mod points;
+mod standings;
+mod told_sums;
 mod wrong_numbers;
 
 pub use last_totals::last_total;
 pub use laws::law_of_corrections;
 pub use mending::{mend, take};
 pub use points::law_of_points;
-pub use wrong_numbers::{WrongNumber, had_before};
+pub use standings::{Standing, standing_in, standing_of};
+pub use told_sums::is_told;
+pub use wrong_numbers::{WrongNumber, due, had_before, is_right_sum, known_total};

@@ -1,8 +1,9 @@
 //! `top --json`: the best plays before a line of a record, as an object.
 
 use crate::answers::{AnswerTask, answer_in_json};
+use asked_racks::rack_in_capitals;
 use call_stages::{Decision, InputFault};
-use command_files::{open_inputs, open_sheet, rack_in_capitals, refuse_in_json, told_in_json};
+use command_files::{open_inputs, open_sheet, refuse_in_json, told_in_json};
 use command_line::{GameFiles, PlaysAsked};
 use engine::TurnPlays;
 use exit_statuses::{Exit, Trouble};

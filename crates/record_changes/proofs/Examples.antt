@@ -116,7 +116,7 @@ weights : Agree (
     ∷ (weight_of (slip.Tile tiles_of.Exchange (tile.Extra kind_of_tile.Blank)), 2)
     ∷ (weight_of (slip.Tile tiles_of.Exchange (tile.Missing kind_of_tile.Blank)), 2)
     ∷ (weight_of (slip.Tile tiles_of.LastRack (tile.Extra kind_of_tile.Blank)), 4)
-    ∷ (weight_of (slip.Missing (line.Time First (negsuc 9) true)), 6)
+    ∷ (weight_of (slip.Missing (line.Time First (negsuc 9) true)), 11)
     ∷ (weight_of (slip.Missing (line.Challenge First (pos 10) true)), 5)
     ∷ (weight_of (slip.Missing (line.Play First (record { at = 105; dir = Down; word = word (codes "AB") }))), 4)
     ∷ (weight_of (slip.Replayed (record { at = 105; dir = Down; word = word (codes "AB") })), 6)

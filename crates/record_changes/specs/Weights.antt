@@ -48,9 +48,9 @@ tile_weight of (tile.Other written right) = other_weight of
 tile_weight of (tile.Extra written) = number_weight of
 tile_weight of (tile.Missing right) = number_weight of
 
--- a penalty before a turn
+-- A penalty before a turn weighs more than two wrong numbers, since penalties are written down when the game has ended.
 abbrev pub early_weight : (early : Bool) → ℕ
-early_weight true = 6
+early_weight true = 11
 early_weight false = 3
 
 -- a challenge of more than one word

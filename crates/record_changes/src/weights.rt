@@ -61,7 +61,7 @@ fn tile_weight(of: TilesOf, slip: &TileSlip) -> usize
 fn early_weight(early: bool) -> usize
     ensures { result ≡ early_weight early }
 {
-    if early { 6 } else { 3 }
+    if early { 11 } else { 3 }
 }
 
 fn several_weight(several: bool) -> usize

@@ -11,7 +11,7 @@ use Rattle.game_turns.specs.LatestEvents.{standing_words}
 use Rattle.game_turns.specs.Tallies.{State}
 use Rattle.game_sheets.specs.Auditing.{IsAudited}
 use Rattle.game_sheets.specs.Corrections.{IsRenumbered, AreRenumbered, IsCorrection}
-use Rattle.game_sheets.specs.WrongNumbers.{wrong_lines, wrong_totals}
+use Rattle.game_sheets.specs.WrongNumbers.{wrong_lines, all_wrong}
 use Rattle.game_sheets.specs.declared.wrong_numbers.WrongNumber.{WrongNumber}
 use Rattle.game_sheets.proofs.Fronts.{one_correction}
 use Rattle.game_sheets.proofs.Mends.{set_there, set_elsewhere}
@@ -92,14 +92,14 @@ sheet_renumbered change changed right sheet is are =
 -- the right events are those of the sheet too, and the wrong numbers are those compared with them
 pub record IsAuditOf (sheet right audited : List Event) (wrong : List WrongNumber) : Type 0 where
   pub same : audited ≡ right
-  pub all : wrong ≡ wrong_lines sheet right ++ wrong_totals sheet right
+  pub all : wrong ≡ all_wrong (wrong_lines None sheet right) sheet right
 
 pub audited_right : (rules : Rules) (list : List (List ℕ)) (changed sheet right audited : List Event) (wrong : List WrongNumber) → IsWritable rules list changed right → AreRenumbered sheet right
     → IsAudited rules list sheet audited wrong → IsAuditOf sheet right audited wrong
 audited_right rules list changed sheet right audited wrong is are (inl audit) =
     let own : IsCorrection rules list sheet right = record { renumbered = are; allowed = is.correction.allowed } in
     let same : audited ≡ right = one_correction rules list sheet audited right audit.correction own in
-    record { same = same; all = audit.all ∙ ap (λ (es : List Event). wrong_lines sheet es ++ wrong_totals sheet es) same }
+    record { same = same; all = audit.all ∙ ap (λ (es : List Event). all_wrong (wrong_lines None sheet es) sheet es) same }
 audited_right rules list changed sheet right audited wrong is are (inr audit) =
     absurd (audit.none right is.points (record { renumbered = are; allowed = is.correction.allowed }))
 
@@ -107,7 +107,7 @@ pub kept_wrong : (change : Change) (written sheet right audited : List Event) (w
     → IsAuditOf sheet right audited wrong → kept ≡ filter is_on_line wrong → kept ≡ wrong_with change written right
 unfolding wrong_with
 kept_wrong change written sheet right audited wrong kept is audit keeps =
-    keeps ∙ ap (filter is_on_line) audit.all ∙ lines_alone sheet right ∙ ap (λ (es : List Event). wrong_lines es right) is
+    keeps ∙ ap (filter is_on_line) audit.all ∙ lines_alone None sheet right ∙ ap (λ (es : List Event). wrong_lines None es right) is
 
 -- ---- its rows
 

@@ -1,10 +1,12 @@
--- The scores and words that a trial of a change counts are wrong compared with each correction.
-use Rattle.std.proofs.Common.{◌≡◌, ◌⊎◌, inl, inr, ℕ, ◌+◌, ◌-◌, ◌<◌, ◌≤◌, Bool, true, false, List, [], ◌∷◌, length, take, drop, slice_get, Option, Some, None, refl, sym, ap, ◌∙◌, subst, arith, if◌then◌else◌}
-use Rattle.std.specs.Ordering.{int_eq}
+-- The numbers and words that a trial of a change counts are wrong compared with each correction.
+use Rattle.std.proofs.Common.{◌≡◌, ◌⊎◌, inl, inr, ℕ, ℤ, ◌+◌, ◌-◌, ◌<◌, ◌≤◌, Bool, true, List, length, take, drop, slice_get, Option, Some, None, refl, sym, ap, ◌∙◌, subst, arith}
+use Rattle.std.specs.Prelude.{pos}
+use Rattle.std.specs.Option.{unwrap_or}
 use Rattle.std.proofs.lemmas.Bool.{cases_lt}
 use Rattle.std.proofs.lemmas.Option.{same_Some}
 use Rattle.ref_tiles.specs.declared.rulebook.Rules.{Rules}
 use Rattle.gcg_read.specs.declared.events.Event.{Event}
+use Rattle.gcg_read.specs.declared.events.Seat.{Seat}
 use Rattle.game_turns.specs.declared.machine.Machine.{Machine}
 use Rattle.game_turns.specs.LatestEvents.{standing_words}
 use Rattle.game_turns.specs.Machines.{state_of}
@@ -13,12 +15,12 @@ use Rattle.game_turns.specs.Tallies.{State, tally_at, withdraws}
 use Rattle.game_rows.specs.declared.numbers.Numbers.{Numbers}
 use Rattle.game_rows.specs.declared.rows.Row.{Row}
 use Rattle.game_rows.specs.declared.walking.Walk.{Walk}
+use Rattle.game_rows.specs.Numbers.{numbers_in}
 use Rattle.game_rows.specs.Rows.{AreRowsTo}
 use Rattle.game_rows.specs.Walks.{IsWalkOf}
 use Rattle.game_sheets.specs.Corrections.{AreRenumbered}
-use Rattle.game_sheets.specs.declared.wrong_numbers.WrongNumber.{WrongNumber}
-use Rattle.game_sheets.specs.declared.wrong_numbers.WrongNumber.TheVariants as wrong_number
-use Rattle.game_sheets.specs.WrongNumbers.{wrong_score}
+use Rattle.game_sheets.specs.LastTotals.{last_total}
+use Rattle.game_sheets.specs.WrongNumbers.{had_before}
 use Rattle.game_sheets.proofs.Fronts.{both_renumbered, fronts_agree, same_tally}
 use Rattle.event_notes.specs.Unlisted.{unlisted_of}
 use Rattle.record_changes.specs.Applied.{applied}
@@ -27,46 +29,35 @@ use Rattle.record_changes.specs.declared.slips.Slip.{Slip}
 use Rattle.record_changes.specs.declared.slips.Slip.TheVariants as slip
 use Rattle.record_repairs.specs.OnSheet.{on_sheet}
 use Rattle.record_repairs.specs.Remaining.{many_left, unlisted_at}
-use Rattle.record_repairs.specs.Sums.{IsSheetBut, place_by, missing_place}
-use Rattle.record_repairs.specs.Counting.{Leaves, score_of, many_at, sum_from, many_unlisted, many_scores, scores_but, many_by_row, many_in_rows, many_sums}
+use Rattle.record_repairs.specs.Sums.{IsSheetBut, place_by, missing_place, had_of, many_scores, many_sums, many_numbers}
+use Rattle.record_repairs.specs.Counting.{Leaves, many_at, sum_from, many_unlisted, had_at, many_at_row, many_in_rows}
 use Rattle.record_repairs.specs.Trying.{IsStart, IsWritable, HaveNone, NoneFrom, NoneFewer}
-use Rattle.record_repairs.proofs.Lists.{get_take, get_front, take_less, take_front}
+use Rattle.record_repairs.proofs.Lists.{get_take, get_front, take_less, take_front, same_take}
 use Rattle.record_repairs.proofs.Fronts.{same_tally as tally_of_front}
 use Rattle.record_repairs.proofs.Leaving.{leaves_none, leaves_itself, leaves_both, leaves_more, leaves_to, sum_more, sum_step, sum_joined, sum_within, words_many}
 use Rattle.record_repairs.proofs.Starts.{joined_at, front_like, front_allowed, tally_joined}
 use Rattle.record_repairs.proofs.Trials.{GoesTo}
 use Rattle.record_repairs.proofs.Walked.{renumbered_by}
-use Rattle.record_repairs.proofs.WrongSums.{sheet_with, all_few}
+use Rattle.record_repairs.proofs.WrongSums.{KnowsBoth, knows_own, both_many, numbers_few, sheet_with, all_few}
 
--- ---- wrong scores
-
-scores_many : (e r : Event) → length (wrong_score e r) ≡ many_scores e.score r.score
-scores_many e r = by_test (wrong_number.Score e.line e.score r.score) (int_eq e.score r.score)
-  where
-    by_test : (number : WrongNumber) (b : Bool) → length (if b then [] else (number ∷ [])) ≡ (if b then 0 else 1)
-    by_test number true = refl
-    by_test number false = refl
-
-gone_or_not : (old sheet right : List Event) (missing : Option ℕ) (place : ℕ) (o e : Event) (gone : Bool) → IsSheetBut old missing sheet → slice_get old place ≡ Some o → slice_get right place ≡ Some e
-    → (missing ≡ Some place → gone ≡ true) → scores_but gone o.score e.score ≤ length (score_of (slice_get sheet place) (slice_get right place))
-gone_or_not old sheet right missing place o e true but stood there told = omega arith
-gone_or_not old sheet right missing place o e false but stood there told =
-    let on : slice_get sheet place ≡ Some o = but.same place (λ here. let gone = told here in cc) ∙ stood in
-    let same : length (score_of (slice_get sheet place) (slice_get right place)) ≡ length (wrong_score o e) =
-    ap (λ (x : Option Event). length (score_of x (slice_get right place))) on ∙ ap (λ (x : Option Event). length (score_of (Some o) x)) there in
-    let many = scores_many o e in
-    omega (arith, same, many)
+-- ---- one event
 
 words_by : (rules : Rules) (list : List (List ℕ)) (right : List Event) (place : ℕ) (s : State) → tally_at rules right (place + 1) ≡ s
     → length (unlisted_at rules list right place) ≡ length (unlisted_of list (standing_words s.latest))
 words_by rules list right place s same = ap (λ (t : State). length (unlisted_of list (standing_words t.latest))) same
 
+-- the event that was there before
+pub old_there : (rules : Rules) (list : List (List ℕ)) (old now : List Event) (start place : ℕ) (machine : Machine) (o : Event) → GoesTo rules list old now start place machine → start ≤ place
+    → slice_get now place ≡ Some o → slice_get old place ≡ Some o
+old_there rules list old now start place machine o before near of_o = sym (before.up.untouched place (omega arith)) ∙ before.there place near ∙ of_o
+
 -- An event that was given its right numbers counts no more than what is wrong there compared with a correction.
-pub event_counted : (rules : Rules) (list : List (List ℕ)) (old now new : List Event) (start place : ℕ) (machine next : Machine) (missing : Option ℕ) (right sheet : List Event) (o e : Event) (gone : Bool)
+pub event_counted : (rules : Rules) (list : List (List ℕ)) (old now new : List Event) (start place : ℕ) (machine next : Machine) (missing : Option ℕ) (right sheet : List Event) (o e : Event)
+    (first second : Option ℤ) (gone : Bool)
     → GoesTo rules list old now start place machine → GoesTo rules list old new start (place + 1) next → start ≤ place → place < length old → IsWritable rules list old right
-    → IsSheetBut old missing sheet → slice_get now place ≡ Some o → slice_get new place ≡ Some e → (missing ≡ Some place → gone ≡ true)
-    → scores_but gone o.score e.score + many_unlisted list (standing_words (state_of next).latest) ≤ many_at rules list sheet right place
-event_counted rules list old now new start place machine next missing right sheet o e gone before at near within is but of_o of_e told =
+    → IsSheetBut old missing sheet → slice_get now place ≡ Some o → slice_get new place ≡ Some e → (missing ≡ Some place → gone ≡ true) → KnowsBoth sheet place first second
+    → many_numbers gone (had_of first second o.player) (numbers_in o) (numbers_in e) + many_unlisted list (standing_words (state_of next).latest) ≤ many_at rules list sheet right place
+event_counted rules list old now new start place machine next missing right sheet o e first second gone before at near within is but of_o of_e told knows =
     let front = at.front in
     let many = at.up.renumbered.as_many in
     let like : AreRenumbered front right = both_renumbered old front right at.up.renumbered is.correction.renumbered in
@@ -75,11 +66,11 @@ event_counted rules list old now new start place machine next missing right shee
     fronts_agree rules list front right (place + 1) like (omega (arith, many, within)) at.up.allowed (λ k below. is.correction.allowed k (omega (arith, below, long, many, within))) in
     let there : slice_get right place ≡ Some e =
     sym (get_take right (place + 1) place (omega arith)) ∙ ap (λ (es : List Event). slice_get es place) agree ∙ get_take front (place + 1) place (omega arith) ∙ at.there place near ∙ of_e in
-    let stood : slice_get old place ≡ Some o = sym (before.up.untouched place (omega arith)) ∙ before.there place near ∙ of_o in
+    let stood = old_there rules list old now start place machine o before near of_o in
     let words = words_by rules list right place (state_of next) (same_tally rules front right (place + 1) like agree ∙ sym at.state) in
     let counted = words_many list (standing_words (state_of next).latest) in
-    let scores = gone_or_not old sheet right missing place o e gone but stood there told in
-    omega (arith, words, counted, scores)
+    let numbers = numbers_few old sheet right missing place o e (had_of first second o.player) gone but stood there told (knows_own sheet place first second o.player knows) in
+    omega (arith, words, counted, numbers)
 
 -- ---- the events from a start up to a place
 
@@ -91,16 +82,18 @@ pub counts_none : (rules : Rules) (list : List (List ℕ)) (old : List Event) (s
 counts_none rules list old start missing room right sheet is but =
     leaves_more room room 0 (sum_from (many_at rules list sheet right) start (start - start)) (omega arith) (leaves_itself room)
 
-pub counts_more : (rules : Rules) (list : List (List ℕ)) (old now new : List Event) (start place : ℕ) (machine next : Machine) (missing room left last : Option ℕ) (o e : Event) (gone : Bool) (scores : ℕ)
-    → GoesTo rules list old now start place machine → GoesTo rules list old new start (place + 1) next → start ≤ place → place < length old
-    → slice_get now place ≡ Some o → slice_get new place ≡ Some e → (missing ≡ Some place → gone ≡ true) → scores ≡ scores_but gone o.score e.score
-    → Leaves left (scores + many_unlisted list (standing_words (state_of next).latest)) last
+pub counts_more : (rules : Rules) (list : List (List ℕ)) (old now new : List Event) (start place : ℕ) (machine next : Machine) (missing room left last : Option ℕ) (o e : Event) (first second : Option ℤ)
+    (gone : Bool) (numbers : ℕ) → GoesTo rules list old now start place machine → GoesTo rules list old new start (place + 1) next → start ≤ place → place < length old
+    → slice_get now place ≡ Some o → slice_get new place ≡ Some e → (missing ≡ Some place → gone ≡ true)
+    → ((sheet : List Event) → IsSheetBut old missing sheet → KnowsBoth sheet place first second)
+    → numbers ≡ many_numbers gone (had_of first second o.player) (numbers_in o) (numbers_in e)
+    → Leaves left (numbers + many_unlisted list (standing_words (state_of next).latest)) last
     → Counts rules list old start place missing room left → Counts rules list old start (place + 1) missing room last
-counts_more rules list old now new start place machine next missing room left last o e gone scores before at near within of_o of_e told made leaves counts right sheet is but =
+counts_more rules list old now new start place machine next missing room left last o e first second gone numbers before at near within of_o of_e told knows made leaves counts right sheet is but =
     let at_place : ℕ → ℕ = many_at rules list sheet right in
-    let more = scores + many_unlisted list (standing_words (state_of next).latest) in
+    let more = numbers + many_unlisted list (standing_words (state_of next).latest) in
     let step = sum_step at_place start place near in
-    let here = event_counted rules list old now new start place machine next missing right sheet o e gone before at near within is but of_o of_e told in
+    let here = event_counted rules list old now new start place machine next missing right sheet o e first second gone before at near within is but of_o of_e told (knows sheet but) in
     leaves_more room last (sum_from at_place start (place - start) + more) (sum_from at_place start (place + 1 - start)) (omega (arith, step, here, made))
     (leaves_both room left last (sum_from at_place start (place - start)) more (counts right sheet is but) leaves)
 
@@ -152,38 +145,48 @@ rows_agree rules list written changed right front place start like allowed is wi
           ∙ tally_up_to rules written changed front start k like enough is.same below (cases_lt (k + 1) start);
     }
 
+-- what a player had before a place of a front
+had_front : (sheet written : List Event) (start k : ℕ) (player : Seat) → ((j : ℕ) → j < start → slice_get sheet j ≡ slice_get written j) → k < start → had_before sheet player k ≡ had_before written player k
+had_front sheet written start k player same below =
+    ap (λ (es : List Event). unwrap_or (last_total player es) (pos 0)) (same_take sheet written k (λ j less. same j (omega (arith, less, below))))
+
 row_counted : (rules : Rules) (list : List (List ℕ)) (written right front sheet : List Event) (rows : List Row) (start end k : ℕ) (o : Option Row) → AreRowsTo rules list written front end rows
-    → Agree rules right front start → k < start → slice_get sheet k ≡ slice_get written k → slice_get rows k ≡ o → many_by_row list o ≤ many_at rules list sheet right k
+    → Agree rules right front start → k < start → ((j : ℕ) → j < start → slice_get sheet j ≡ slice_get written j) → slice_get rows k ≡ o
+    → many_at_row list written k o ≤ many_at rules list sheet right k
 row_counted rules list written right front sheet rows start end k None are agree below same at = omega arith
 row_counted rules list written right front sheet rows start end k (Some row) are agree below same at =
     let here = are.each k row at in
-    let on : slice_get sheet k ≡ Some here.own = same ∙ here.stood in
+    let own : Event = here.own in
+    let on : slice_get sheet k ≡ Some own = same k below ∙ here.stood in
     let there : slice_get right k ≡ Some here.event = agree.events k below ∙ here.stands in
-    let scores : length (score_of (slice_get sheet k) (slice_get right k)) ≡ length (wrong_score here.own here.event) =
-    ap (λ (x : Option Event). length (score_of x (slice_get right k))) on ∙ ap (λ (x : Option Event). length (score_of (Some here.own) x)) there in
-    let many = scores_many here.own here.event in
-    let by_row : many_scores row.written.score row.right.score ≡ many_scores here.own.score here.event.score =
-    ap (λ (n : Numbers). many_scores n.score row.right.score) here.own_numbers ∙ ap (λ (n : Numbers). many_scores here.own.score n.score) here.right_numbers in
+    let all = both_many sheet right k own here.event on there in
+    let had : had_at written k (slice_get written k) ≡ had_before sheet own.player k =
+    ap (λ (x : Option Event). had_at written k x) here.stood ∙ sym (had_front sheet written start k own.player same below) in
+    let scores : many_scores row.written.score row.right.score ≡ many_scores own.score here.event.score =
+    ap (λ (n : Numbers). many_scores n.score row.right.score) here.own_numbers ∙ ap (λ (n : Numbers). many_scores own.score n.score) here.right_numbers in
+    let sums : many_sums (had_at written k (slice_get written k)) row.written row.right ≡ many_sums (had_before sheet own.player k) (numbers_in own) (numbers_in here.event) =
+    ap (λ (h : ℤ). many_sums h row.written row.right) had ∙ ap (λ (n : Numbers). many_sums (had_before sheet own.player k) n row.right) here.own_numbers
+    ∙ ap (λ (n : Numbers). many_sums (had_before sheet own.player k) (numbers_in own) n) here.right_numbers in
     let words = words_by rules list right k (state_of row.behind) (agree.tallies k below ∙ sym here.behind) in
-    omega (arith, scores, many, by_row, words)
+    omega (arith, all, scores, sums, words)
 
 -- The rows before a start count no more than what is wrong there compared with a correction of the changed record.
 pub rows_counted : (rules : Rules) (list : List (List ℕ)) (written changed right sheet : List Event) (walk : Walk) (missing : Option ℕ) (place start : ℕ) → IsWalkOf rules list written walk
     → IsStart written changed place start → start ≤ length written → start ≤ length changed → start ≤ length walk.rows.items
     → ((j : ℕ) → j < place → slice_get changed j ≡ slice_get written j) → IsWritable rules list changed right → IsSheetBut changed missing sheet → ((k : ℕ) → missing ≡ Some k → place ≤ k)
-    → many_in_rows list walk.rows.items start ≤ sum_from (many_at rules list sheet right) 0 start
+    → many_in_rows list written walk.rows.items start ≤ sum_from (many_at rules list sheet right) 0 start
 rows_counted rules list written changed right sheet walk missing place start walked is within long rows same writable but none =
     let at = walked.is in
     let many = at.rows.as_many in
     let near = is.before in
     let agree = rows_agree rules list written changed right walked.right place start (renumbered_by rules list written walked.right at.end walk.stopped at.ends)
     (λ k below. at.allowed k (omega (arith, below, rows, many))) is within long same writable in
-    sum_within (λ k. many_by_row list (slice_get walk.rows.items k)) (many_at rules list sheet right) 0 start
-    (λ k from below.
-    let less : k < start = omega (arith, below) in
-    let apart : missing ≡ Some k → ⊥ = λ here. let far = none k here in omega (arith, far, less, near) in
-    row_counted rules list written right walked.right sheet walk.rows.items start at.end k (slice_get walk.rows.items k) at.rows agree less
-    (but.same k apart ∙ same k (omega (arith, less, near))) refl)
+    let front : (j : ℕ) → j < start → slice_get sheet j ≡ slice_get written j =
+    λ j below.
+    let apart : missing ≡ Some j → ⊥ = λ here. let far = none j here in omega (arith, far, below, near) in
+    but.same j apart ∙ same j (omega (arith, below, near)) in
+    sum_within (λ k. many_at_row list written k (slice_get walk.rows.items k)) (many_at rules list sheet right) 0 start
+    (λ k from below. row_counted rules list written right walked.right sheet walk.rows.items start at.end k (slice_get walk.rows.items k) at.rows agree (omega (arith, below)) front refl)
 
 -- ---- a change
 
@@ -205,13 +208,12 @@ missing_at slip.Extra place k is = cc
 missing_at slip.Swapped place k is = cc
 missing_at slip.SwappedOver place k is = cc
 
--- If the sums, the rows before a start and the events from there on leave no room, too many numbers and words stay wrong.
-pub none_by : (rules : Rules) (list : List (List ℕ)) (change : Change) (written changed : List Event) (walk : Walk) (start : ℕ) (missing below first left : Option ℕ) → changed ≡ applied change written
+-- If the rows before a start and the events from there on leave no room, too many numbers and words stay wrong.
+pub none_by : (rules : Rules) (list : List (List ℕ)) (change : Change) (written changed : List Event) (walk : Walk) (start : ℕ) (missing below left : Option ℕ) → changed ≡ applied change written
     → IsWalkOf rules list written walk → IsStart written changed change.place start → start ≤ length written → start ≤ length changed → start ≤ length walk.rows.items
     → ((j : ℕ) → j < change.place → slice_get changed j ≡ slice_get written j) → missing ≡ missing_place change
-    → ((sheet : List Event) → IsSheetBut changed missing sheet → Leaves below (many_sums sheet (length changed)) first)
-    → Leaves first (many_in_rows list walk.rows.items start) left → NoneFrom rules list changed start missing left → NoneFewer rules list written below change
-none_by rules list change written changed walk start missing below first left is walked starts within long rows same where_missing sums of_rows none right writable fewer =
+    → Leaves below (many_in_rows list written walk.rows.items start) left → NoneFrom rules list changed start missing left → NoneFewer rules list written below change
+none_by rules list change written changed walk start missing below left is walked starts within long rows same where_missing of_rows none right writable fewer =
     let sheet : List Event = on_sheet change (applied change written) right in
     let own : IsWritable rules list changed right = subst (λ (es : List Event). IsWritable rules list es right) (sym is) writable in
     let but : IsSheetBut changed missing sheet = subst (λ m. IsSheetBut changed m sheet) (sym where_missing) (sheet_with change written changed right is) in
@@ -222,10 +224,15 @@ none_by rules list change written changed walk start missing below first left is
     let split = sum_joined at_place 0 start (length changed - start) in
     let whole : sum_from at_place 0 (start + (length changed - start)) ≡ sum_from at_place 0 (length changed) = ap (sum_from at_place 0) (omega (arith, long)) in
     let behind : sum_from at_place (0 + start) (length changed - start) ≡ sum_from at_place start (length changed - start) = ap (λ n. sum_from at_place n (length changed - start)) (omega arith) in
-    let counted = many_in_rows list walk.rows.items start in
     none right sheet own but
-    (leaves_to below left (many_sums sheet (length changed) + counted) (leaves_both below first left (many_sums sheet (length changed)) counted (sums sheet but) of_rows)
-    (sum_from at_place start (length changed - start)) (many_left rules list change written right) (omega (arith, all, before, split, whole, behind)) fewer)
+    (leaves_to below left (many_in_rows list written walk.rows.items start) of_rows (sum_from at_place start (length changed - start)) (many_left rules list change written right)
+    (omega (arith, all, before, split, whole, behind)) fewer)
+
+-- the missing line is not before a start
+pub missing_behind : (change : Change) (missing : Option ℕ) (start : ℕ) → missing ≡ missing_place change → start ≤ change.place → (k : ℕ) → missing ≡ Some k → start ≤ k
+missing_behind change missing start is before k here =
+    let far = missing_at change.slip change.place k (sym is ∙ here) in
+    omega (arith, far, before)
 
 pub from_by_rules : (own rules : Rules) (list : List (List ℕ)) (changed : List Event) (start : ℕ) (missing room : Option ℕ) → own ≡ rules → NoneFrom own list changed start missing room
     → NoneFrom rules list changed start missing room

@@ -1,5 +1,5 @@
 -- How many may still be wrong, and how many are in all at some places.
-use Rattle.std.proofs.Common.{◌≡◌, ℕ, zero, suc, ◌+◌, ◌-◌, ◌<◌, ◌≤◌, Bool, true, false, List, [], ◌∷◌, ◌++◌, length, slice_get, get_or, Option, Some, None, refl, sym, ap, ◌∙◌, subst, arith, if◌then◌else◌}
+use Rattle.std.proofs.Common.{◌≡◌, ℕ, ℤ, zero, suc, ◌+◌, ◌-◌, ◌<◌, ◌≤◌, Bool, true, false, List, [], ◌∷◌, ◌++◌, length, slice_get, get_or, Option, Some, None, refl, sym, ap, ◌∙◌, subst, arith, if◌then◌else◌}
 use Rattle.std.specs.Prelude.{not, cond}
 use Rattle.std.specs.List.{flat_map, range_with_len}
 use Rattle.std.proofs.lemmas.List.{append_assoc, append-nil, length-append}
@@ -8,10 +8,13 @@ use Rattle.std.proofs.lemmas.Option.{slice_get_read}
 use Rattle.lex_list.specs.Words.{is_listed}
 use Rattle.game_turns.specs.LatestEvents.{standing_words}
 use Rattle.game_turns.specs.Machines.{state_of}
+use Rattle.gcg_read.specs.declared.events.Event.{Event}
 use Rattle.game_rows.specs.declared.rows.Row.{Row}
+use Rattle.game_sheets.specs.WrongNumbers.{had_before}
 use Rattle.event_notes.specs.Unlisted.{unlisted_one, unlisted_of}
 use Rattle.record_repairs.specs.Remaining.{AreFewer}
-use Rattle.record_repairs.specs.Counting.{less, Leaves, sum_from, many_unlisted, many_scores, many_by_row, many_in_rows}
+use Rattle.record_repairs.specs.Sums.{many_scores, many_sums}
+use Rattle.record_repairs.specs.Counting.{less, Leaves, sum_from, many_unlisted, had_at, many_by_row, many_at_row, many_in_rows}
 
 -- ---- rooms
 
@@ -76,16 +79,17 @@ words_many list words = sym (is_count_by (λ (ws : List (List ℕ)). length (unl
         → length (unlisted_of list (word ∷ rest)) ≡ cond (not (is_listed list word)) (1 + length (unlisted_of list rest)) (length (unlisted_of list rest))
     each word rest = length-append (unlisted_one list word) (unlisted_of list rest) ∙ one_more word (unlisted_of list rest) (is_listed list word)
 
-pub row_leaves : (room left : Option ℕ) (list : List (List ℕ)) (row : Row) (scores : ℕ) → scores ≡ many_scores row.written.score row.right.score
-    → Leaves room (scores + many_unlisted list (standing_words (state_of row.behind).latest)) left → Leaves room (many_by_row list (Some row)) left
-row_leaves room left list row scores is leaves =
+pub row_leaves : (room left : Option ℕ) (list : List (List ℕ)) (row : Row) (had : ℤ) (numbers : ℕ)
+    → numbers ≡ many_scores row.written.score row.right.score + many_sums had row.written row.right
+    → Leaves room (numbers + many_unlisted list (standing_words (state_of row.behind).latest)) left → Leaves room (many_by_row list had row) left
+row_leaves room left list row had numbers is leaves =
     let words = words_many list (standing_words (state_of row.behind).latest) in
-    leaves_more room left (scores + many_unlisted list (standing_words (state_of row.behind).latest)) (many_by_row list (Some row)) (omega (arith, is, words)) leaves
+    leaves_more room left (numbers + many_unlisted list (standing_words (state_of row.behind).latest)) (many_by_row list had row) (omega (arith, is, words)) leaves
 
-pub scores_leave : (room left : Option ℕ) (list : List (List ℕ)) (row : Row) (scores : ℕ) → scores ≡ many_scores row.written.score row.right.score → left ≡ less room scores
-    → Leaves room (many_by_row list (Some row)) left
-scores_leave room left list row scores is made =
-    leaves_more room left scores (many_by_row list (Some row)) (omega (arith, is)) (subst (Leaves room scores) (sym made) (leaves_less room scores))
+pub numbers_leave : (room left : Option ℕ) (list : List (List ℕ)) (row : Row) (had : ℤ) (numbers : ℕ)
+    → numbers ≡ many_scores row.written.score row.right.score + many_sums had row.written row.right → left ≡ less room numbers → Leaves room (many_by_row list had row) left
+numbers_leave room left list row had numbers is made =
+    leaves_more room left numbers (many_by_row list had row) (omega (arith, is)) (subst (Leaves room numbers) (sym made) (leaves_less room numbers))
 
 -- ---- sums over places
 
@@ -120,21 +124,30 @@ sum_step f start place behind =
     let step : place + 1 - start ≡ suc (place - start) = omega (arith, behind) in
     ap (sum_from f start) step ∙ ap (λ k. sum_from f start (place - start) + f k) (omega (arith, behind))
 
-pub row_more : (list : List (List ℕ)) (rows : List Row) (place : ℕ) → many_in_rows list rows (place + 1) ≡ many_in_rows list rows place + many_by_row list (slice_get rows place)
-row_more list rows place =
+pub row_more : (list : List (List ℕ)) (events : List Event) (rows : List Row) (place : ℕ)
+    → many_in_rows list events rows (place + 1) ≡ many_in_rows list events rows place + many_at_row list events place (slice_get rows place)
+row_more list events rows place =
     let step : place + 1 ≡ suc place = omega arith in
     let here : 0 + place ≡ place = omega arith in
-    ap (many_in_rows list rows) step ∙ ap (λ k. many_in_rows list rows place + many_by_row list (slice_get rows k)) here
+    ap (many_in_rows list events rows) step ∙ ap (λ k. many_in_rows list events rows place + many_at_row list events k (slice_get rows k)) here
+
+row_there : (list : List (List ℕ)) (events : List Event) (rows : List Row) (place : ℕ) (e : Event) (row : Row) → slice_get events place ≡ Some e → slice_get rows place ≡ Some row
+    → many_at_row list events place (slice_get rows place) ≡ many_by_row list (had_before events e.player place) row
+row_there list events rows place e row of_e at =
+    ap (many_at_row list events place) at ∙ ap (λ (o : Option Event). many_by_row list (had_at events place o) row) of_e
 
 -- the rows before a place, and one more
-pub rows_leave : (room left last : Option ℕ) (list : List (List ℕ)) (rows : List Row) (place : ℕ) (row : Row) → place < length rows → row ≡ get_or rows place row
-    → Leaves room (many_in_rows list rows place) left → Leaves left (many_by_row list (Some row)) last → Leaves room (many_in_rows list rows (place + 1)) last
-rows_leave room left last list rows place row within read before one =
+pub rows_leave : (room left last : Option ℕ) (list : List (List ℕ)) (events : List Event) (rows : List Row) (place : ℕ) (e : Event) (row : Row) (had : ℤ) → place < length events → place < length rows
+    → e ≡ get_or events place e → row ≡ get_or rows place row → had ≡ had_before events e.player place → Leaves room (many_in_rows list events rows place) left
+    → Leaves left (many_by_row list had row) last → Leaves room (many_in_rows list events rows (place + 1)) last
+rows_leave room left last list events rows place e row had in_events within of_e read is before one =
+    let own : slice_get events place ≡ Some e = slice_get_read events (length events) place e refl in_events of_e in
     let at : slice_get rows place ≡ Some row = slice_get_read rows (length rows) place row refl within read in
-    let step = row_more list rows place in
-    let here : many_by_row list (slice_get rows place) ≡ many_by_row list (Some row) = ap (many_by_row list) at in
-    leaves_more room last (many_in_rows list rows place + many_by_row list (Some row)) (many_in_rows list rows (place + 1)) (omega (arith, step, here))
-    (leaves_both room left last (many_in_rows list rows place) (many_by_row list (Some row)) before one)
+    let step = row_more list events rows place in
+    let here : many_at_row list events place (slice_get rows place) ≡ many_by_row list had row =
+    row_there list events rows place e row own at ∙ ap (λ (h : ℤ). many_by_row list h row) (sym is) in
+    leaves_more room last (many_in_rows list events rows place + many_by_row list had row) (many_in_rows list events rows (place + 1)) (omega (arith, step, here))
+    (leaves_both room left last (many_in_rows list events rows place) (many_by_row list had row) before one)
 
 pub range_last : {A : Type 0} (f : ℕ → List A) (a n : ℕ) → flat_map f (range_with_len a (suc n)) ≡ flat_map f (range_with_len a n) ++ f (a + n)
 range_last f a zero = append-nil (f a) ∙ ap f (omega arith)

@@ -1,5 +1,5 @@
 -- What stays wrong, place by place.
-use Rattle.std.proofs.Common.{◌≡◌, ℕ, ℤ, suc, ◌+◌, ◌<◌, true, false, List, ◌++◌, length, min, get_or, slice_get, Option, Some, refl, sym, ap, ◌∙◌, arith}
+use Rattle.std.proofs.Common.{◌≡◌, ℕ, ℤ, suc, ◌+◌, ◌<◌, true, false, List, ◌++◌, length, min, get_or, slice_get, Option, Some, None, refl, sym, ap, ◌∙◌, arith}
 use Rattle.std.specs.Prelude.{Result, Ok, Err, OnOk}
 use Rattle.std.specs.List.{flat_map, range_with_len}
 use Rattle.std.specs.Result.{is_err}
@@ -31,15 +31,16 @@ use Rattle.record_repairs.proofs.WrongSums.{sheet_with}
 -- ---- numbers
 
 pub both_wrong : (sheet right : List Event) (place : ℕ) (e r : Event) (items first last : List WrongNumber) (had : ℤ) → place < length sheet → place < length right
-    → e ≡ get_or sheet place e → r ≡ get_or right place r → first ≡ items ++ wrong_score e r → had ≡ had_before sheet e.player place → last ≡ first ++ wrong_sum had e
-    → last ≡ items ++ wrong_at sheet right place
+    → e ≡ get_or sheet place e → r ≡ get_or right place r → first ≡ items ++ wrong_score e r → had ≡ had_before sheet e.player place → last ≡ first ++ wrong_sum had e (Some r.total)
+    → last ≡ items ++ wrong_at None sheet right place
 both_wrong sheet right place e r items first last had in_sheet in_right of_e of_r made same added =
     let at : slice_get sheet place ≡ Some e = slice_get_read sheet (length sheet) place e refl in_sheet of_e in
     let there : slice_get right place ≡ Some r = slice_get_read right (length right) place r refl in_right of_r in
-    let here : wrong_at sheet right place ≡ wrong_score e r ++ wrong_sum (had_before sheet e.player place) e =
-    ap (λ (o : Option Event). wrong_of sheet place o (slice_get right place)) at ∙ ap (λ (o : Option Event). wrong_of sheet place (Some e) o) there in
-    added ∙ ap (λ (h : ℤ). first ++ wrong_sum h e) same ∙ ap (λ (xs : List WrongNumber). xs ++ wrong_sum (had_before sheet e.player place) e) made
-    ∙ append_assoc items (wrong_score e r) (wrong_sum (had_before sheet e.player place) e) ∙ ap (λ (xs : List WrongNumber). items ++ xs) (sym here)
+    let sum : List WrongNumber = wrong_sum (had_before sheet e.player place) e (Some r.total) in
+    let here : wrong_at None sheet right place ≡ wrong_score e r ++ sum =
+    ap (λ (o : Option Event). wrong_of None sheet place o (slice_get right place)) at ∙ ap (λ (o : Option Event). wrong_of None sheet place (Some e) o) there in
+    added ∙ ap (λ (h : ℤ). first ++ wrong_sum h e (Some r.total)) same ∙ ap (λ (xs : List WrongNumber). xs ++ sum) made
+    ∙ append_assoc items (wrong_score e r) sum ∙ ap (λ (xs : List WrongNumber). items ++ xs) (sym here)
 
 -- the elements of a list of lists, with one more list
 pub one_more : {X : Type 0} (f : ℕ → List X) (place : ℕ) (old new : List X) → old ≡ flat_map f (range_with_len 0 place) → new ≡ old ++ f place → new ≡ flat_map f (range_with_len 0 (place + 1))
@@ -49,19 +50,19 @@ one_more {X} f place old new so_far added =
     added ∙ ap (λ (xs : List X). xs ++ f place) so_far ∙ ap (λ k. flat_map f (range_with_len 0 place) ++ f k) here
     ∙ sym (range_last f 0 place) ∙ ap (λ k. flat_map f (range_with_len 0 k)) (sym step)
 
-pub all_wrong : (sheet right : List Event) (place : ℕ) (items : List WrongNumber) → items ≡ flat_map (wrong_at sheet right) (range_with_len 0 place) → place ≡ length sheet → length right ≡ length sheet
-    → items ≡ wrong_lines sheet right
+pub all_wrong : (sheet right : List Event) (place : ℕ) (items : List WrongNumber) → items ≡ flat_map (wrong_at None sheet right) (range_with_len 0 place) → place ≡ length sheet → length right ≡ length sheet
+    → items ≡ wrong_lines None sheet right
 unfolding wrong_lines
 all_wrong sheet right place items so_far last long =
     let all : place ≡ min (length sheet) (length right) = omega (arith, last, long) in
-    so_far ∙ ap (λ k. flat_map (wrong_at sheet right) (range_with_len 0 k)) all
+    so_far ∙ ap (λ k. flat_map (wrong_at None sheet right) (range_with_len 0 k)) all
 
 pub wrong_is : (change : Change) (written right shown given sheet other : List Event) (items : List WrongNumber) → shown ≡ right → given ≡ right → other ≡ sheet
-    → sheet ≡ on_sheet change (applied change written) shown → items ≡ wrong_lines other given → items ≡ wrong_with change written right
+    → sheet ≡ on_sheet change (applied change written) shown → items ≡ wrong_lines None other given → items ≡ wrong_with change written right
 unfolding wrong_with
 wrong_is change written right shown given sheet other items of_shown of_given of_other is made =
-    made ∙ ap (λ (es : List Event). wrong_lines es given) (of_other ∙ is ∙ ap (on_sheet change (applied change written)) of_shown)
-    ∙ ap (λ (es : List Event). wrong_lines (on_sheet change (applied change written) right) es) of_given
+    made ∙ ap (λ (es : List Event). wrong_lines None es given) (of_other ∙ is ∙ ap (on_sheet change (applied change written)) of_shown)
+    ∙ ap (λ (es : List Event). wrong_lines None (on_sheet change (applied change written) right) es) of_given
 
 pub sheet_long : (change : Change) (written right shown given sheet other : List Event) → shown ≡ right → given ≡ right → other ≡ sheet → sheet ≡ on_sheet change (applied change written) shown
     → AreRenumbered (applied change written) right → length given ≡ length other

@@ -1,22 +1,22 @@
--- The sums that are wrong whatever the right scores are.
-use Rattle.std.proofs.Common.{◌≡◌, ◌⊎◌, inl, inr, ℕ, ℤ, suc, ◌+◌, ◌<◌, ◌≤◌, Bool, true, false, List, [], ◌∷◌, ◌++◌, map, length, min, set, take, get_or, slice_get, Option, Some, None, refl, sym, ap, ◌∙◌, subst, arith, if◌then◌else◌}
+-- How many numbers of a line are wrong, as far as that is known, and all that stays wrong, place by place.
+use Rattle.std.proofs.Common.{◌≡◌, ◌⊎◌, inl, inr, ℕ, ℤ, ◌+◌, ◌<◌, ◌≤◌, Bool, true, false, List, [], ◌∷◌, ◌++◌, map, length, min, set, take, get_or, slice_get, Option, Some, None, refl, sym, ap, ◌∙◌, subst, arith, if◌then◌else◌}
 use Rattle.std.specs.Prelude.{pos, ◌+ℤ◌}
 use Rattle.std.specs.Ordering.{int_eq}
 use Rattle.std.specs.List.{flat_map, range_with_len}
 use Rattle.std.specs.Option.{unwrap_or}
 use Rattle.std.proofs.lemmas.Bool.{cases_eq}
 use Rattle.std.proofs.lemmas.List.{length-append, length-set}
-use Rattle.std.proofs.lemmas.Option.{same_Some, slice_get_within, slice_get-get_or, slice_get_read, get_or_from_slice_get}
+use Rattle.std.proofs.lemmas.Option.{same_Some, slice_get-get_or, get_or_from_slice_get}
 use Rattle.ref_tiles.specs.declared.rulebook.Rules.{Rules}
 use Rattle.gcg_read.specs.Players.{same_seat}
 use Rattle.gcg_read.specs.declared.events.Event.{Event}
 use Rattle.gcg_read.specs.declared.events.Seat.{Seat}
 use Rattle.gcg_read.specs.declared.events.Seat.TheVariants.{First, Second}
-use Rattle.game_sheets.specs.declared.wrong_numbers.WrongNumber.{WrongNumber}
-use Rattle.game_sheets.specs.declared.wrong_numbers.WrongNumber.TheVariants as wrong_number
+use Rattle.game_rows.specs.declared.numbers.Numbers.{Numbers}
+use Rattle.game_rows.specs.Numbers.{numbers_in}
 use Rattle.game_sheets.specs.Corrections.{AreRenumbered}
 use Rattle.game_sheets.specs.LastTotals.{later, last_total}
-use Rattle.game_sheets.specs.WrongNumbers.{had_before, wrong_score, wrong_sum, wrong_of, wrong_at, wrong_lines}
+use Rattle.game_sheets.specs.WrongNumbers.{had_before, is_right_sum, wrong_score, wrong_sum, wrong_of, wrong_at, wrong_lines}
 use Rattle.game_sheets.proofs.Mends.{set_there, set_elsewhere}
 use Rattle.game_sheets.proofs.Totals.{total_more}
 use Rattle.record_changes.specs.Splices.{spliced}
@@ -26,88 +26,53 @@ use Rattle.record_changes.specs.declared.slips.Slip.{Slip}
 use Rattle.record_changes.specs.declared.slips.Slip.TheVariants as slip
 use Rattle.record_repairs.specs.OnSheet.{line_on_sheet, sheet_by, on_sheet}
 use Rattle.record_repairs.specs.Remaining.{many_left, wrong_with, unlisted_at, unlisted_words}
-use Rattle.record_repairs.specs.Counting.{score_of, many_at, many_sums, sum_from}
-use Rattle.record_repairs.proofs.Leaving.{range_last, sum_lengths, sum_two, sum_within}
-use Rattle.record_repairs.specs.Sums.{sum_of, sum_at, sums_to, IsSheetBut, place_by, missing_place, Knows, next_had, many_by, many_wrong}
-use Rattle.record_repairs.proofs.Lists.{past_of}
+use Rattle.record_repairs.specs.Counting.{many_at, sum_from}
+use Rattle.record_repairs.specs.Sums.{IsSheetBut, place_by, missing_place, Knows, next_had, had_of, many_scores, many_sums, known_sums, many_numbers}
+use Rattle.record_repairs.proofs.Leaving.{sum_lengths, sum_two}
+use Rattle.record_repairs.proofs.Lists.{same_take}
 use Rattle.record_repairs.proofs.SheetLines.{one_spliced, none_spliced}
 
--- ---- the sums of both players are among the wrong numbers
+-- ---- the numbers of a line
 
-by_seat : (sheet : List Event) (place : ℕ) (e r : Event) (p : Seat)
-    → length (if same_seat p First then wrong_sum (had_before sheet First place) e else []) + length (if same_seat p Second then wrong_sum (had_before sheet Second place) e else [])
-    + length (wrong_score e r) ≤ length (wrong_score e r ++ wrong_sum (had_before sheet p place) e)
-by_seat sheet place e r First = let all = length-append (wrong_score e r) (wrong_sum (had_before sheet First place) e) in omega (arith, all)
-by_seat sheet place e r Second = let all = length-append (wrong_score e r) (wrong_sum (had_before sheet Second place) e) in omega (arith, all)
+one_or_none : {X : Type 0} (b : Bool) (x : X) → length (if b then [] else (x ∷ [])) ≡ (if b then 0 else 1)
+one_or_none true x = refl
+one_or_none false x = refl
 
--- the sum of a line is that of one player
-three_among : (sheet right : List Event) → length right ≡ length sheet → (place : ℕ) (o r : Option Event) → slice_get sheet place ≡ o → slice_get right place ≡ r
-    → length (sum_of First sheet place o) + length (sum_of Second sheet place o) + length (score_of o r) ≤ length (wrong_of sheet place o r)
-three_among sheet right long place None r at there = omega arith
-three_among sheet right long place (Some e) None at there =
-    let within = slice_get_within sheet place e at in
-    let past = past_of right place there in
-    absurd (omega (arith, long, within, past))
-three_among sheet right long place (Some e) (Some r) at there = by_seat sheet place e r e.player
+pub scores_many : (e r : Event) → length (wrong_score e r) ≡ many_scores e.score r.score
+scores_many e r = one_or_none (int_eq e.score r.score) _
 
-abbrev scores_at : (sheet right : List Event) → (place : ℕ) → ℕ
-scores_at sheet right place = length (score_of (slice_get sheet place) (slice_get right place))
+pub sums_many : (had : ℤ) (e r : Event) → length (wrong_sum had e (Some r.total)) ≡ many_sums had (numbers_in e) (numbers_in r)
+sums_many had e r = one_or_none (is_right_sum e.total (had +ℤ e.score) (Some r.total)) _
 
--- the sums of both players and the scores are the wrong numbers
-lines_few : (sheet right : List Event) (many : ℕ) → length right ≡ length sheet → length sheet ≡ many
-    → many_sums sheet many + sum_from (scores_at sheet right) 0 many ≤ length (wrong_lines sheet right)
-unfolding wrong_lines
-lines_few sheet right many long same =
-    let all : min (length sheet) (length right) ≡ many = omega (arith, long, same) in
-    let first = sum_lengths (sum_at First sheet) many in
-    let second = sum_lengths (sum_at Second sheet) many in
-    let lines = sum_lengths (wrong_at sheet right) many in
-    let sums = sum_two (λ k. length (sum_at First sheet k)) (λ k. length (sum_at Second sheet k)) (λ k. length (sum_at First sheet k) + length (sum_at Second sheet k)) many (λ k. refl) in
-    let three = sum_two (λ k. length (sum_at First sheet k) + length (sum_at Second sheet k)) (scores_at sheet right)
-    (λ k. length (sum_at First sheet k) + length (sum_at Second sheet k) + scores_at sheet right k) many (λ k. refl) in
-    let few : sum_from (λ k. length (sum_at First sheet k) + length (sum_at Second sheet k) + scores_at sheet right k) 0 many ≤ sum_from (λ k. length (wrong_at sheet right k)) 0 many =
-    sum_within (λ k. length (sum_at First sheet k) + length (sum_at Second sheet k) + scores_at sheet right k) (λ k. length (wrong_at sheet right k)) 0 many
-    (λ k from below. three_among sheet right long k (slice_get sheet k) (slice_get right k) refl refl) in
-    subst (λ n. many_sums sheet many + sum_from (scores_at sheet right) 0 many ≤ length (flat_map (wrong_at sheet right) (range_with_len 0 n))) (sym all)
-    (omega (arith, first, second, lines, sums, three, few))
+-- all numbers of a line that are wrong
+pub both_many : (sheet right : List Event) (place : ℕ) (e r : Event) → slice_get sheet place ≡ Some e → slice_get right place ≡ Some r
+    → length (wrong_at None sheet right place) ≡ many_scores e.score r.score + many_sums (had_before sheet e.player place) (numbers_in e) (numbers_in r)
+both_many sheet right place e r at there =
+    let had = had_before sheet e.player place in
+    let here : length (wrong_at None sheet right place) ≡ length (wrong_score e r ++ wrong_sum had e (Some r.total)) =
+    ap (λ (o : Option Event). length (wrong_of None sheet place o (slice_get right place))) at ∙ ap (λ (o : Option Event). length (wrong_of None sheet place (Some e) o)) there in
+    let all = length-append (wrong_score e r) (wrong_sum had e (Some r.total)) in
+    let scores = scores_many e r in
+    let sums = sums_many had e r in
+    omega (arith, here, all, scores, sums)
 
--- ---- one more line
-
-sums_more : (player : Seat) (sheet : List Event) (place : ℕ) → length (sums_to player sheet (place + 1)) ≡ length (sums_to player sheet place) + length (sum_at player sheet place)
-sums_more player sheet place =
-    let step : place + 1 ≡ suc place = omega arith in
-    let start : 0 + place ≡ place = omega arith in
-    ap (λ n. length (sums_to player sheet n)) step
-    ∙ ap (λ (xs : List WrongNumber). length xs) (range_last (sum_at player sheet) 0 place ∙ ap (λ k. sums_to player sheet place ++ sum_at player sheet k) start)
-    ∙ length-append (sums_to player sheet place) (sum_at player sheet place)
-
-known_few : (player : Seat) (sheet : List Event) (place : ℕ) (e : Event) (had : Option ℤ) → Knows player sheet place had → many_by had e ≤ length (wrong_sum (had_before sheet player place) e)
-known_few player sheet place e None knows = omega arith
-known_few player sheet place e (Some h) knows =
-    let same : length (wrong_sum (had_before sheet player place) e) ≡ length (wrong_sum h e) = ap (λ n. length (wrong_sum n e)) (knows h refl) in
+known_few : (sheet : List Event) (player : Seat) (place : ℕ) (e r : Numbers) (had : Option ℤ) → Knows player sheet place had
+    → known_sums had e r ≤ many_sums (had_before sheet player place) e r
+known_few sheet player place e r None knows = omega arith
+known_few sheet player place e r (Some h) knows =
+    let same : many_sums (had_before sheet player place) e r ≡ many_sums h e r = ap (λ (n : ℤ). many_sums n e r) (knows h refl) in
     omega (arith, same)
 
-seat_few : (player : Seat) (sheet : List Event) (place : ℕ) (e : Event) (had : Option ℤ) (own : Bool) → Knows player sheet place had
-    → (if own then many_by had e else 0) ≤ length (if own then wrong_sum (had_before sheet player place) e else [])
-seat_few player sheet place e had true knows = known_few player sheet place e had knows
-seat_few player sheet place e had false knows = omega arith
-
-here_few : (player : Seat) (events sheet : List Event) (missing : Option ℕ) (place : ℕ) (e : Event) (had : Option ℤ) (gone : Bool) → IsSheetBut events missing sheet
-    → slice_get events place ≡ Some e → (missing ≡ Some place → gone ≡ true) → Knows player sheet place had → many_wrong had e player gone ≤ length (sum_at player sheet place)
-here_few player events sheet missing place e had true is at told knows = omega arith
-here_few player events sheet missing place e had false is at told knows =
-    let there : slice_get sheet place ≡ Some e = is.same place (λ here. let gone = told here in cc) ∙ at in
-    let same : length (sum_at player sheet place) ≡ length (sum_of player sheet place (Some e)) = ap (λ o. length (sum_of player sheet place o)) there in
-    let few = seat_few player sheet place e had (same_seat e.player player) knows in
-    omega (arith, same, few)
-
-pub count_more : (player : Seat) (events sheet : List Event) (missing : Option ℕ) (place : ℕ) (e : Event) (had : Option ℤ) (gone : Bool) (many more : ℕ) → IsSheetBut events missing sheet
-    → place < length events → e ≡ get_or events place e → (missing ≡ Some place → gone ≡ true) → Knows player sheet place had → many ≤ length (sums_to player sheet place)
-    → more ≡ many_wrong had e player gone → many + more ≤ length (sums_to player sheet (place + 1))
-count_more player events sheet missing place e had gone many more is within read told knows few by =
-    let here = here_few player events sheet missing place e had gone is (slice_get_read events (length events) place e refl within read) told knows in
-    let all = sums_more player sheet place in
-    omega (arith, here, all, few, by)
+-- no more are counted than are wrong, whatever numbers the missing line has
+pub numbers_few : (old sheet right : List Event) (missing : Option ℕ) (place : ℕ) (o e : Event) (had : Option ℤ) (gone : Bool) → IsSheetBut old missing sheet
+    → slice_get old place ≡ Some o → slice_get right place ≡ Some e → (missing ≡ Some place → gone ≡ true) → Knows o.player sheet place had
+    → many_numbers gone had (numbers_in o) (numbers_in e) ≤ length (wrong_at None sheet right place)
+numbers_few old sheet right missing place o e had true but stood there told knows = omega arith
+numbers_few old sheet right missing place o e had false but stood there told knows =
+    let on : slice_get sheet place ≡ Some o = but.same place (λ here. let gone = told here in cc) ∙ stood in
+    let all = both_many sheet right place o e on there in
+    let few = known_few sheet o.player place (numbers_in o) (numbers_in e) had knows in
+    omega (arith, all, few)
 
 -- ---- what the player had
 
@@ -129,9 +94,9 @@ knows_by player events sheet missing place e x had true false h is at there told
     ap (λ o. unwrap_or o (pos 0)) (step ∙ had_own player x (last_total player (take place sheet)) seat) ∙ ap (λ (y : Event). y.total) same ∙ same_Some e.total h next
 
 pub knows_more : (player : Seat) (events sheet : List Event) (missing : Option ℕ) (place : ℕ) (e : Event) (had next : Option ℤ) (gone : Bool) → IsSheetBut events missing sheet
-    → place < length events → e ≡ get_or events place e → (missing ≡ Some place → gone ≡ true) → Knows player sheet place had → next ≡ next_had had e player gone → Knows player sheet (place + 1) next
-knows_more player events sheet missing place e had next gone is within read told knows made h of_h =
-    let at = slice_get_read events (length events) place e refl within read in
+    → place < length events → slice_get events place ≡ Some e → (missing ≡ Some place → gone ≡ true) → Knows player sheet place had → next ≡ next_had had e.player e.total player gone
+    → Knows player sheet (place + 1) next
+knows_more player events sheet missing place e had next gone is within at told knows made h of_h =
     let x : Event = get_or sheet place e in
     let long : place < length sheet = subst (λ n. place < n) (sym is.as_many) within in
     let there : slice_get sheet place ≡ Some x = slice_get-get_or sheet place e long in
@@ -139,6 +104,53 @@ knows_more player events sheet missing place e had next gone is within read told
     let back : x ≡ get_or sheet place x = sym (get_or_from_slice_get sheet place x x there) in
     let step = sym (total_more player sheet place x (last_total player (take place sheet)) long back refl) in
     knows_by player events sheet missing place e x had (same_seat e.player player) gone h is at there told knows (ap (λ (p : Seat). same_seat p player) seat) step (sym made ∙ of_h)
+
+-- what both players had, if it is known
+pub record KnowsBoth (sheet : List Event) (place : ℕ) (first second : Option ℤ) : Type 0 where
+  pub of_first : Knows First sheet place first
+  pub of_second : Knows Second sheet place second
+
+pub knows_own : (sheet : List Event) (place : ℕ) (first second : Option ℤ) (player : Seat) → KnowsBoth sheet place first second → Knows player sheet place (had_of first second player)
+knows_own sheet place first second First both = both.of_first
+knows_own sheet place first second Second both = both.of_second
+
+-- after one more line
+pub both_next : (events sheet : List Event) (missing : Option ℕ) (place : ℕ) (e : Event) (first second next_first next_second : Option ℤ) (owner : Seat) (numbers : Numbers) (gone : Bool)
+    → IsSheetBut events missing sheet → place < length events → slice_get events place ≡ Some e → (missing ≡ Some place → gone ≡ true) → owner ≡ e.player → numbers ≡ numbers_in e
+    → KnowsBoth sheet place first second → next_first ≡ next_had first owner numbers.total First gone → next_second ≡ next_had second owner numbers.total Second gone
+    → KnowsBoth sheet (place + 1) next_first next_second
+both_next events sheet missing place e first second next_first next_second owner numbers gone is within at told same_owner same_numbers both is_first is_second =
+    record {
+      of_first = knows_more First events sheet missing place e first next_first gone is within at told both.of_first
+          (is_first ∙ ap (λ (p : Seat). next_had first p numbers.total First gone) same_owner ∙ ap (λ (n : Numbers). next_had first e.player n.total First gone) same_numbers);
+      of_second = knows_more Second events sheet missing place e second next_second gone is within at told both.of_second
+          (is_second ∙ ap (λ (p : Seat). next_had second p numbers.total Second gone) same_owner ∙ ap (λ (n : Numbers). next_had second e.player n.total Second gone) same_numbers);
+    }
+
+-- the numbers that were counted are those of the line
+pub counted_there : (e r : Event) (first second : Option ℤ) (owner : Seat) (written right : Numbers) (gone : Bool) (many : ℕ) → owner ≡ e.player → written ≡ numbers_in e → right ≡ numbers_in r
+    → many ≡ many_numbers gone (had_of first second owner) written right → many ≡ many_numbers gone (had_of first second e.player) (numbers_in e) (numbers_in r)
+counted_there e r first second owner written right gone many same_owner of_written of_right is =
+    is ∙ ap (λ (p : Seat). many_numbers gone (had_of first second p) written right) same_owner
+    ∙ ap (λ (n : Numbers). many_numbers gone (had_of first second e.player) n right) of_written
+    ∙ ap (λ (n : Numbers). many_numbers gone (had_of first second e.player) (numbers_in e) n) of_right
+
+-- at a start before which no line is missing
+pub knows_start : (player : Seat) (events sheet : List Event) (missing : Option ℕ) (start : ℕ) (had : Option ℤ) → IsSheetBut events missing sheet → ((k : ℕ) → missing ≡ Some k → start ≤ k)
+    → had ≡ Some (unwrap_or (last_total player (take start events)) (pos 0)) → Knows player sheet start had
+knows_start player events sheet missing start had is none made h of_h =
+    let front : take start sheet ≡ take start events =
+    same_take sheet events start (λ j below. is.same j (λ here. let far = none j here in absurd (omega (arith, far, below)))) in
+    ap (λ (es : List Event). unwrap_or (last_total player es) (pos 0)) front ∙ same_Some (unwrap_or (last_total player (take start events)) (pos 0)) h (sym made ∙ of_h)
+
+pub both_start : (events shown sheet : List Event) (missing : Option ℕ) (start : ℕ) (first second : Option ℤ) → shown ≡ take start events → IsSheetBut events missing sheet
+    → ((k : ℕ) → missing ≡ Some k → start ≤ k) → first ≡ Some (unwrap_or (last_total First shown) (pos 0)) → second ≡ Some (unwrap_or (last_total Second shown) (pos 0))
+    → KnowsBoth sheet start first second
+both_start events shown sheet missing start first second shows is none is_first is_second =
+    record {
+      of_first = knows_start First events sheet missing start first is none (is_first ∙ ap (λ (es : List Event). Some (unwrap_or (last_total First es) (pos 0))) shows);
+      of_second = knows_start Second events sheet missing start second is none (is_second ∙ ap (λ (es : List Event). Some (unwrap_or (last_total Second es) (pos 0))) shows);
+    }
 
 -- ---- the sheet with a change
 
@@ -194,40 +206,23 @@ pub sheet_with : (change : Change) (written changed right : List Event) → chan
 sheet_with change written changed right is =
     subst (λ (es : List Event). IsSheetBut es (missing_place change) (on_sheet change (applied change written) right)) (sym is) (sheet_but change.slip change.place (applied change written) right)
 
--- The sums of a sheet with a change that are wrong, and its scores and words, stay wrong.
+-- What stays wrong with a change is what is wrong at its places.
 pub all_few : (rules : Rules) (list : List (List ℕ)) (change : Change) (written changed right : List Event) → changed ≡ applied change written → AreRenumbered (applied change written) right
-    → many_sums (on_sheet change (applied change written) right) (length changed) + sum_from (many_at rules list (on_sheet change (applied change written) right) right) 0 (length changed)
-    ≤ many_left rules list change written right
-unfolding wrong_with unlisted_words
+    → sum_from (many_at rules list (on_sheet change (applied change written) right) right) 0 (length changed) ≡ many_left rules list change written right
+unfolding wrong_with unlisted_words wrong_lines
 all_few rules list change written changed right is are =
     let own = applied change written in
     let sheet : List Event = on_sheet change own right in
     let but : IsSheetBut changed (missing_place change) sheet = sheet_with change written changed right is in
     let many : length own ≡ length changed = ap (λ (es : List Event). length es) (sym is) in
+    let sheet_many = but.as_many in
     let long : length right ≡ length changed = are.as_many ∙ many in
-    let lines = lines_few sheet right (length changed) (long ∙ sym but.as_many) but.as_many in
+    let both : min (length sheet) (length right) ≡ length changed = omega (arith, sheet_many, long) in
+    let numbers = sum_lengths (wrong_at None sheet right) (length changed) in
     let words = sum_lengths (unlisted_at rules list right) (length changed) in
-    let both = sum_two (scores_at sheet right) (λ k. length (unlisted_at rules list right k)) (many_at rules list sheet right) (length changed) (λ k. refl) in
-    let end : length (flat_map (unlisted_at rules list right) (range_with_len 0 (length right))) ≡ length (flat_map (unlisted_at rules list right) (range_with_len 0 (length changed))) =
+    let all = sum_two (λ k. length (wrong_at None sheet right k)) (λ k. length (unlisted_at rules list right k)) (many_at rules list sheet right) (length changed) (λ k. refl) in
+    let end_numbers : length (flat_map (wrong_at None sheet right) (range_with_len 0 (min (length sheet) (length right)))) ≡ length (flat_map (wrong_at None sheet right) (range_with_len 0 (length changed))) =
+    ap (λ n. length (flat_map (wrong_at None sheet right) (range_with_len 0 n))) both in
+    let end_words : length (flat_map (unlisted_at rules list right) (range_with_len 0 (length right))) ≡ length (flat_map (unlisted_at rules list right) (range_with_len 0 (length changed))) =
     ap (λ n. length (flat_map (unlisted_at rules list right) (range_with_len 0 n))) long in
-    omega (arith, lines, words, both, end)
-
-pub wrong_one : (had : Option ℤ) (e : Event) (player : Seat) (gone : Bool) → many_wrong had e player gone ≤ 1
-wrong_one had e player true = omega arith
-wrong_one had e player false = by_own (same_seat e.player player)
-  where
-    one_sum : (h : ℤ) (same : Bool) → length (if same then [] else (wrong_number.Sum e.line e.total (h +ℤ e.score) ∷ [])) ≤ 1
-    one_sum h true = omega arith
-    one_sum h false = omega arith
-
-    one_by : (o : Option ℤ) → many_by o e ≤ 1
-    one_by None = omega arith
-    one_by (Some h) = one_sum h (int_eq e.total (h +ℤ e.score))
-
-    by_own : (own : Bool) → (if own then many_by had e else 0) ≤ 1
-    by_own true = one_by had
-    by_own false = omega arith
-
--- what the first line has before it
-pub first_known : (player : Seat) (sheet : List Event) (had : Option ℤ) → had ≡ Some (pos 0) → Knows player sheet 0 had
-first_known player sheet had is h of_h = same_Some (pos 0) h (sym is ∙ of_h)
+    omega (arith, numbers, words, all, end_numbers, end_words)

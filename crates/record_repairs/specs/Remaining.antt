@@ -18,7 +18,7 @@ use Rattle.record_repairs.specs.declared.remains.Remains.{Remains}
 
 -- The scores and sums of the sheet that are wrong, compared with the right events.
 unfoldable pub wrong_with : Change → (written right : List Event) → List WrongNumber
-wrong_with change written right = wrong_lines (on_sheet change (applied change written) right) right
+wrong_with change written right = wrong_lines None (on_sheet change (applied change written) right) right
 
 -- whether a number is on a line, and is not the last total of a player
 abbrev pub is_on_line : WrongNumber → Bool

@@ -1,26 +1,15 @@
--- The sums of a sheet that are wrong, player by player.
-use Rattle.std.specs.Prelude.{◌≡◌, ℕ, ℤ, Bool, List, [], length, slice_get, Option, Some, None, if◌then◌else◌}
-use Rattle.std.specs.List.{flat_map, range_with_len}
+-- What is known of a sheet of which a line may be missing: what its players had, and which numbers are wrong.
+use Rattle.std.specs.Prelude.{◌≡◌, ℕ, ℤ, ◌+ℤ◌, ◌+◌, Bool, List, length, slice_get, Option, Some, None, if◌then◌else◌}
+use Rattle.std.specs.Ordering.{int_eq}
 use Rattle.gcg_read.specs.Players.{same_seat}
 use Rattle.gcg_read.specs.declared.events.Event.{Event}
 use Rattle.gcg_read.specs.declared.events.Seat.{Seat}
-use Rattle.game_sheets.specs.declared.wrong_numbers.WrongNumber.{WrongNumber}
-use Rattle.game_sheets.specs.WrongNumbers.{had_before, wrong_sum}
+use Rattle.gcg_read.specs.declared.events.Seat.TheVariants.{First, Second}
+use Rattle.game_rows.specs.declared.numbers.Numbers.{Numbers}
+use Rattle.game_sheets.specs.WrongNumbers.{had_before, is_right_sum}
 use Rattle.record_changes.specs.declared.slips.Change.{Change}
 use Rattle.record_changes.specs.declared.slips.Slip.{Slip}
 use Rattle.record_changes.specs.declared.slips.Slip.TheVariants as slip
-
--- the total at a place, if the event there is the player's and the total is wrong
-abbrev pub sum_of : Seat → (sheet : List Event) → (place : ℕ) → Option Event → List WrongNumber
-sum_of player sheet place None = []
-sum_of player sheet place (Some e) = if same_seat e.player player then wrong_sum (had_before sheet player place) e else []
-
-abbrev pub sum_at : Seat → (sheet : List Event) → (place : ℕ) → List WrongNumber
-sum_at player sheet place = sum_of player sheet place (slice_get sheet place)
-
--- the wrong sums of a player before a place
-abbrev pub sums_to : Seat → (sheet : List Event) → (place : ℕ) → List WrongNumber
-sums_to player sheet place = flat_map (sum_at player sheet) (range_with_len 0 place)
 
 -- A sheet of these events, whatever numbers the missing line has, if there is one.
 pub record IsSheetBut (events : List Event) (missing : Option ℕ) (sheet : List Event) : Type 0 where
@@ -40,14 +29,28 @@ missing_place change = place_by change.slip change.place
 abbrev pub Knows : Seat → (sheet : List Event) → (place : ℕ) → Option ℤ → Type 0
 Knows player sheet place had = (h : ℤ) → had ≡ Some h → had_before sheet player place ≡ h
 
--- the same after one more event
-abbrev pub next_had : Option ℤ → Event → Seat → (is_missing : Bool) → Option ℤ
-next_had had e player is_missing = if same_seat e.player player then (if is_missing then None else Some e.total) else had
+-- the same after one more line of this player, with this total
+abbrev pub next_had : Option ℤ → (owner : Seat) → (total : ℤ) → (player : Seat) → (is_missing : Bool) → Option ℤ
+next_had had owner total player is_missing = if same_seat owner player then (if is_missing then None else Some total) else had
 
--- how many sums are wrong in a line: 1, or 0 if the sum is right or not known
-abbrev pub many_by : Option ℤ → Event → ℕ
-many_by None e = 0
-many_by (Some had) e = length (wrong_sum had e)
+-- what one of the players had
+abbrev pub had_of : (first second : Option ℤ) → Seat → Option ℤ
+had_of first second First = first
+had_of first second Second = second
 
-abbrev pub many_wrong : Option ℤ → Event → Seat → (is_missing : Bool) → ℕ
-many_wrong had e player is_missing = if is_missing then 0 else if same_seat e.player player then many_by had e else 0
+-- 1 if a score is wrong, 0 if it is right
+abbrev pub many_scores : (written right : ℤ) → ℕ
+many_scores written right = if int_eq written right then 0 else 1
+
+-- the same for a total, by what its player had
+abbrev pub many_sums : (had : ℤ) → (written right : Numbers) → ℕ
+many_sums had written right = if is_right_sum written.total (had +ℤ written.score) (Some right.total) then 0 else 1
+
+-- the same if it is not known what the player had: 0, since the total may be right
+abbrev pub known_sums : Option ℤ → (written right : Numbers) → ℕ
+known_sums None written right = 0
+known_sums (Some had) written right = many_sums had written right
+
+-- How many numbers of a line are wrong, as far as that is known. Those of the missing line count as right whatever they are.
+abbrev pub many_numbers : (is_missing : Bool) → Option ℤ → (written right : Numbers) → ℕ
+many_numbers is_missing had written right = if is_missing then 0 else many_scores written.score right.score + known_sums had written right

@@ -24,8 +24,8 @@ pub record IsWritable (rules : Rules) (list : List (List ℕ)) (changed right : 
 abbrev pub HaveNone : Rules → (list : List (List ℕ)) → (changed : List Event) → Type 0
 HaveNone rules list changed = (right : List Event) → IsWritable rules list changed right → ⊥
 
--- With each correction that a record can write, more scores and words are wrong from a place on than there is room for, whatever numbers
--- a missing line has on the sheet.
+-- With each correction that a record can write, more numbers and words are wrong from a place on than there is room for, whatever numbers a
+-- missing line has on the sheet.
 abbrev pub NoneFrom : Rules → (list : List (List ℕ)) → (changed : List Event) → (start : ℕ) → (missing room : Option ℕ) → Type 0
 NoneFrom rules list changed start missing room =
     (right sheet : List Event) → IsWritable rules list changed right → IsSheetBut changed missing sheet

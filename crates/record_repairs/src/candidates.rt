@@ -18,7 +18,6 @@ use crate::listed::Listed;
 use crate::rack_stops::{RackStop, rack_stop};
 use crate::rooms::is_full;
 use crate::standing::game_before;
-use crate::sums::behind_sums;
 use crate::trying::weigh;
 use crate::with_plays::slips_with;
 use change_lists::law_of_slips;
@@ -107,9 +106,8 @@ fn is_past_room(
         → (change : Change) → change.place ≡ place → NoneFewer rules list.now events.now below change }
 {
     law_of_changes();
-    let room = behind_sums(below, &events[..place], None);
     let before = place.saturating_sub(1);
-    is_full(behind_rows(room, list, walk.rows.as_slice(), before))
+    is_full(behind_rows(below, list, events, walk.rows.as_slice(), before))
 }
 
 /// Adds the changes at a place with which the record has a correction, in the order of the list, and then the plays that were added there.

@@ -1,14 +1,17 @@
-//! How many scores and words are wrong, counted event by event.
-ghost use Rattle.std.specs.Prelude.{◌≡◌, ◌≤◌, ◌+◌, length, Some};
+//! How many numbers and words are wrong, counted event by event.
+ghost use Rattle.std.specs.Prelude.{◌≡◌, ◌≤◌, ◌+◌, length};
+ghost use Rattle.gcg_read.specs.Numerals.{IsPoints};
 ghost use Rattle.ref_play.specs.Words.{items_of};
 ghost use Rattle.game_turns.specs.LatestEvents.{standing_words};
 ghost use Rattle.game_turns.specs.Machines.{state_of};
-ghost use Rattle.record_repairs.specs.Counting.{Leaves, many_unlisted, many_scores, scores_but, many_by_row, many_in_rows};
+ghost use Rattle.record_repairs.specs.Counting.{Leaves, many_unlisted, many_by_row, many_in_rows};
 
+use crate::had::wrong_numbers;
 use crate::rooms::less;
 use game_rows::Row;
+use game_sheets::had_before;
 use game_turns::Machine;
-use gcg_read::Points;
+use gcg_read::Event;
 use lex_list::WordList;
 use ref_play::Word;
 
@@ -22,26 +25,6 @@ fn many_unlisted(list: &WordList, words: &[Word]) -> usize
         .count()
 }
 
-/// 1 if a score is wrong, 0 if it is right.
-fn many_scores(written: Points, right: Points) -> usize
-    ensures { result ≡ many_scores written right }
-{
-    if written.value() == right.value() {
-        return 0;
-    }
-    1
-}
-
-/// The same for a line. Whether the score of the missing line is wrong is not known.
-pub(crate) fn scores_but(is_missing: bool, written: Points, right: Points) -> usize
-    ensures { result ≡ scores_but is_missing written right }
-{
-    if is_missing {
-        return 0;
-    }
-    many_scores(written, right)
-}
-
 /// The room that is left by the words that stand after an event and are not in the list. If there is no limit, none is looked up.
 #[tactic(auto, using(crate::proofs::Leaving::words_leave, crate::proofs::Leaving::leaves_any))]
 fn behind_words(room: Option<usize>, list: &WordList, game: &Machine) -> Option<usize>
@@ -53,44 +36,52 @@ fn behind_words(room: Option<usize>, list: &WordList, game: &Machine) -> Option<
     less(room, many_unlisted(list, game.standing_words()))
 }
 
-/// The room that an event leaves, with `scores` wrong scores, and after it a game in which its words stand.
+/// The room that an event leaves, with `numbers` wrong numbers, and after it a game in which its words stand.
 #[tactic(auto, using(crate::proofs::Leaving::event_leaves))]
 pub(crate) fn behind_event(
     room: Option<usize>,
     list: &WordList,
     game: &Machine,
-    scores: usize,
+    numbers: usize,
 ) -> Option<usize>
-    ensures { Leaves room (scores + many_unlisted list.now (standing_words (state_of game.now).latest)) result }
+    ensures { Leaves room (numbers + many_unlisted list.now (standing_words (state_of game.now).latest)) result }
 {
-    behind_words(less(room, scores), list, game)
+    behind_words(less(room, numbers), list, game)
 }
 
-/// The room that a row leaves. Its words are looked up only if one of them is not in the list.
-#[tactic(auto, using(crate::proofs::Leaving::row_leaves, crate::proofs::Leaving::scores_leave))]
-fn behind_row(room: Option<usize>, list: &WordList, row: &Row) -> Option<usize>
-    ensures { Leaves room (many_by_row list.now (Some row.now)) result }
+/// The room that a row leaves, if its player had this. Its words are looked up only if one of them is not in the list.
+#[tactic(auto, using(crate::proofs::Leaving::row_leaves, crate::proofs::Leaving::numbers_leave))]
+fn behind_row(room: Option<usize>, list: &WordList, row: &Row, had: i32) -> Option<usize>
+    requires { IsPoints had }
+    ensures { Leaves room (many_by_row list.now had row.now) result }
 {
-    let scores = many_scores(row.written.score, row.right.score);
+    let numbers = wrong_numbers(had, &row.written, &row.right);
     if row.listed {
-        return less(room, scores);
+        return less(room, numbers);
     }
-    behind_event(room, list, &row.behind, scores)
+    behind_event(room, list, &row.behind, numbers)
 }
 
-/// The room that the rows before a place leave.
+/// The room that the rows before a place leave. If there is no limit, none is counted.
+#[tactic(auto, using(crate::proofs::Leaving::leaves_any))]
 pub(crate) fn behind_rows(
     room: Option<usize>,
     list: &WordList,
+    events: &[Event],
     rows: &[Row],
     start: usize,
 ) -> Option<usize>
-    requires { start ≤ length rows.now }
-    ensures { Leaves room (many_in_rows list.now rows.now start) result }
+    requires rows { start ≤ length rows.now }
+    requires events { start ≤ length events.now }
+    ensures { Leaves room (many_in_rows list.now events.now rows.now start) result }
 {
+    if room.is_none() {
+        return None;
+    }
     let mut room = room;
     for place in 0..start {
-        room = behind_row(room, list, &rows[place]);
+        let had = had_before(events, events[place].player, place);
+        room = behind_row(room, list, &rows[place], had);
     }
     room
 }

@@ -17,6 +17,7 @@ mod had;
 mod laws;
 mod listed;
 mod mending;
+mod missing;
 mod nearby;
 mod outcome;
 mod rack_stops;
@@ -27,7 +28,6 @@ mod rooms;
 mod settling;
 mod sheets;
 mod standing;
-mod sums;
 mod trying;
 mod with_plays;
 

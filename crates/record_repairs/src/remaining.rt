@@ -1,5 +1,5 @@
 //! What stays wrong with a change, compared with the right events.
-ghost use Rattle.std.specs.Prelude.{◌≡◌, ◌<◌, ◌++◌, length, IfOk, OnOk};
+ghost use Rattle.std.specs.Prelude.{◌≡◌, ◌<◌, ◌++◌, length, IfOk, OnOk, Some, None};
 ghost use Rattle.gcg_read.specs.Numerals.{IsPoints};
 ghost use Rattle.game_sheets.specs.WrongNumbers.{wrong_score, wrong_sum, wrong_at, wrong_lines};
 ghost use Rattle.game_turns.specs.Places.{AreAllowed};
@@ -11,7 +11,7 @@ ghost use Rattle.record_repairs.specs.Trying.{IsWritable};
 use crate::remains::Remains;
 use crate::sheets::on_sheet;
 use event_notes::{SpelledWord, unlisted_of};
-use game_sheets::{WrongNumber, had_before, take};
+use game_sheets::{WrongNumber, had_before, is_right_sum, known_total, take};
 use game_turns::{Machine, law_of_tallies};
 use gcg_read::{Event, Events};
 use lex_list::WordList;
@@ -33,19 +33,26 @@ fn push_score(wrong: &mut Vec<WrongNumber>, event: &Event, right: &Event) -> Res
     Ok(())
 }
 
-/// Adds the total of an event, if it is not what the player had and the score.
-fn push_sum(wrong: &mut Vec<WrongNumber>, had: i32, event: &Event) -> Result<(), AllocError>
+/// Adds the total of an event, if it is neither what the player had and the score nor the right one.
+fn push_sum(
+    wrong: &mut Vec<WrongNumber>,
+    had: i32,
+    event: &Event,
+    right: &Event,
+) -> Result<(), AllocError>
     requires { IsPoints had }
-    ensures { OnOk result (wrong.new.items ≡ wrong.old.items ++ wrong_sum had event.now) }
+    ensures { OnOk result (wrong.new.items ≡ wrong.old.items ++ wrong_sum had event.now (Some right.now.total)) }
 {
-    let sum = had + event.score.value();
-    if event.total.value() != sum {
-        wrong.push(WrongNumber::Sum {
-            line: event.line,
-            written: event.total.value(),
-            right: sum,
-        })?;
+    let due = known_total(None, right);
+    if is_right_sum(event.total, had, event.score, due) {
+        return Ok(());
     }
+    wrong.push(WrongNumber::Sum {
+        line: event.line,
+        written: event.total.value(),
+        sum: had + event.score.value(),
+        right: due,
+    })?;
     Ok(())
 }
 
@@ -58,11 +65,12 @@ fn push_wrong(
 ) -> Result<(), AllocError>
     requires sheet { place < length sheet.now }
     requires right { place < length right.now }
-    ensures { OnOk result (wrong.new.items ≡ wrong.old.items ++ wrong_at sheet.now right.now place) }
+    ensures { OnOk result (wrong.new.items ≡ wrong.old.items ++ wrong_at None sheet.now right.now place) }
 {
     let event = &sheet[place];
-    push_score(wrong, event, &right[place])?;
-    push_sum(wrong, had_before(sheet, event.player, place), event)?;
+    let due = &right[place];
+    push_score(wrong, event, due)?;
+    push_sum(wrong, had_before(sheet, event.player, place), event, due)?;
     Ok(())
 }
 
@@ -73,7 +81,7 @@ fn wrong_lines(
     right: &[Event],
 ) -> Result<Vec<WrongNumber>, AllocError>
     requires { length right.now ≡ length sheet.now }
-    ensures { IfOk result (λ wrong. wrong.items ≡ wrong_lines sheet.now right.now) }
+    ensures { IfOk result (λ wrong. wrong.items ≡ wrong_lines None sheet.now right.now) }
 {
     let mut wrong = Vec::new(alloc);
     for place in 0..sheet.len() {

@@ -1,5 +1,5 @@
 //! Trying one change of a record.
-ghost use Rattle.std.specs.Prelude.{◌↔◌, IsTrue, IsFalse, IfOk, OnOk};
+ghost use Rattle.std.specs.Prelude.{◌≡◌, ◌↔◌, ◌≤◌, ℕ, Some, IsTrue, IsFalse, IfOk, OnOk};
 ghost use Rattle.game_turns.specs.Machines.{rules_of};
 ghost use Rattle.game_rows.specs.Walks.{IsWalkOf};
 ghost use Rattle.record_repairs.specs.Remaining.{AreFewer};
@@ -8,15 +8,16 @@ ghost use Rattle.record_repairs.specs.FirstSteps.{AreFirstSteps};
 ghost use Rattle.record_repairs.specs.RackStops.{IsStop};
 
 use crate::correcting::corrected;
-use crate::counting::{behind_event, behind_rows, scores_but};
+use crate::counting::{behind_event, behind_rows};
 use crate::first_steps::FirstSteps;
+use crate::had::{Had, line_at};
 use crate::mending::mend;
+use crate::missing::{is_missing_at, missing_place};
 use crate::nearby::fails_nearby;
 use crate::rack_stops::{RackStop, are_stopped, first_steps};
 use crate::remaining::what_remains;
 use crate::rooms::is_full;
 use crate::standing::{game_before, start_of};
-use crate::sums::{behind_sums, is_missing_at, missing_place};
 use game_rows::Walk;
 use game_turns::{Machine, law_of_tallies};
 use gcg_read::{Event, Events};
@@ -26,7 +27,7 @@ use ref_tiles::Rules;
 use std::alloc::{AllocError, Global};
 
 /// Goes on from a place with a machine that is before it, gives each event its right numbers, and adds the steps that come next. It is
-/// false if an event is refused whatever its numbers are, and if more scores and words are wrong from there on than there is room for.
+/// false if an event is refused whatever its numbers are, and if more numbers and words are wrong from there on than there is room for.
 ///
 /// It fails only if memory runs out.
 fn goes_on(
@@ -39,6 +40,7 @@ fn goes_on(
     first: &mut FirstSteps,
 ) -> Result<bool, AllocError>
     requires game { StandsBefore (rules_of game.now) list.now events.old start game.now }
+    requires missing { (k : ℕ) → missing ≡ Some k → start ≤ k }
     requires first { AreFirstSteps (rules_of game.now) list.now events.old first.old.steps.items }
     ensures none { IfOk result (λ b. IsFalse b → NoneFrom (rules_of game.now) list.now events.old start missing room) }
     ensures first { OnOk result (AreFirstSteps (rules_of game.now) list.now events.old first.new.steps.items) }
@@ -48,19 +50,20 @@ fn goes_on(
         return Ok(true);
     }
     let mut machine = game.copy();
+    let mut had = Had::after(&events.as_slice()[..start]);
     let mut room = room;
     for place in start..events.len() {
         if is_full(room) {
             return Ok(false);
         }
         first.note(&machine, events.as_slice(), place)?;
-        let written = events.as_slice()[place].score;
+        let written = line_at(events, place);
         if mend(&mut machine, events, place, list).is_err() {
             return Ok(false);
         }
-        let right = events.as_slice()[place].score;
-        let scores = scores_but(is_missing_at(missing, place), written, right);
-        room = behind_event(room, list, &machine, scores);
+        let right = line_at(events, place);
+        let numbers = had.note(&written, &right, is_missing_at(missing, place));
+        room = behind_event(room, list, &machine, numbers);
     }
     Ok(!is_full(room))
 }
@@ -86,13 +89,12 @@ fn may_be_told(
     law_of_changes();
     let mut changed = apply(alloc, change, events)?;
     let missing = missing_place(change);
-    let room = behind_sums(below, changed.as_slice(), missing);
     let start = start_of(events, changed.as_slice(), change.place);
     let rows = walk.rows.as_slice();
     if start > events.len() || start > changed.len() || start > rows.len() {
         return Ok(true);
     }
-    let room = behind_rows(room, list, rows, start);
+    let room = behind_rows(below, list, events, rows, start);
     let Some(game) = game_before(walk, start) else {
         return Ok(true);
     };

@@ -64,7 +64,7 @@ numbers_alone rules list written right wrong walk alone is points numbers known 
       correction = writable;
       numbers = numbers;
       game = known;
-      wrong = left.wrong ∙ ap (filter is_on_line) audit.all ∙ lines_alone written right;
+      wrong = left.wrong ∙ ap (filter is_on_line) audit.all ∙ lines_alone None written right;
       unlisted = audited_words rules list written written right right wrong walk (letters_in alone.remains.unlisted.items) writable is.renumbered audit walked left.unlisted;
     }
 

@@ -12,29 +12,29 @@ use Rattle.game_case.specs.Explaining.{IsWalkFor, HasItsWalk}
 use Rattle.repair_answers.specs.Answers.{is_illegal, RepairsIn, RepairsBy, RepairsOf}
 use Rattle.repair_answers.specs.declared.answers.Faulty.{Faulty}
 
-pub none_legal : (what : Finding) (rules : Rules) (list : List (List ℕ)) (written : List Event) (walk : Walk) (most : ℕ) → is_illegal what ≡ false
-    → RepairsBy what rules list written (Some walk) most None
-none_legal finding.NoGame rules list written walk most legal = refl
-none_legal (finding.Legal complete) rules list written walk most legal = refl
-none_legal (finding.Illegal line fault) rules list written walk most legal = cc
-none_legal finding.Unsettled rules list written walk most legal = refl
+pub none_legal : (what : Finding) (rules : Rules) (list : List (List ℕ)) (text : List ℕ) (written : List Event) (walk : Walk) (most : ℕ) → is_illegal what ≡ false
+    → RepairsBy what rules list text written (Some walk) most None
+none_legal finding.NoGame rules list text written walk most legal = refl
+none_legal (finding.Legal complete) rules list text written walk most legal = refl
+none_legal (finding.Illegal line fault) rules list text written walk most legal = cc
+none_legal finding.Unsettled rules list text written walk most legal = refl
 
-pub where_illegal : (what : Finding) (rules : Rules) (list : List (List ℕ)) (written : List Event) (walk : Walk) (most : ℕ) (f : Faulty) → is_illegal what ≡ true
-    → RepairsIn rules list written walk most f → RepairsBy what rules list written (Some walk) most (Some f)
-where_illegal finding.NoGame rules list written walk most f illegal is = cc
-where_illegal (finding.Legal complete) rules list written walk most f illegal is = cc
-where_illegal (finding.Illegal line fault) rules list written walk most f illegal is = is
-where_illegal finding.Unsettled rules list written walk most f illegal is = cc
+pub where_illegal : (what : Finding) (rules : Rules) (list : List (List ℕ)) (text : List ℕ) (written : List Event) (walk : Walk) (most : ℕ) (f : Faulty) → is_illegal what ≡ true
+    → RepairsIn rules list text written walk most f → RepairsBy what rules list text written (Some walk) most (Some f)
+where_illegal finding.NoGame rules list text written walk most f illegal is = cc
+where_illegal (finding.Legal complete) rules list text written walk most f illegal is = cc
+where_illegal (finding.Illegal line fault) rules list text written walk most f illegal is = is
+where_illegal finding.Unsettled rules list text written walk most f illegal is = cc
 
-none_by : (read : Result Entry ReadFault) (rules : Rules) (list : List (List ℕ)) (walk : Option Walk) (most : ℕ) → walk ≡ None → IsWalkFor rules list read walk
-    → RepairsOf read rules list walk most None
-none_by (Ok entry) rules list (Some walk) most none is = cc
-none_by (Ok entry) rules list None most none is = absurd is
-none_by (Err fault) rules list walk most none is = refl
+none_by : (read : Result Entry ReadFault) (rules : Rules) (list : List (List ℕ)) (text : List ℕ) (walk : Option Walk) (most : ℕ) → walk ≡ None → IsWalkFor rules list read walk
+    → RepairsOf read rules list text walk most None
+none_by (Ok entry) rules list text (Some walk) most none is = cc
+none_by (Ok entry) rules list text None most none is = absurd is
+none_by (Err fault) rules list text walk most none is = refl
 
 -- if the text is not a record, there is no walk
-pub none_walked : (rules : Rules) (list : List (List ℕ)) (case : Case) (most : ℕ) → HasItsWalk rules list case → case.walk ≡ None → RepairsOf case.read rules list case.walk most None
-none_walked rules list case most has none = none_by case.read rules list case.walk most none has
+pub none_walked : (rules : Rules) (list : List (List ℕ)) (case : Case) (most : ℕ) → HasItsWalk rules list case → case.walk ≡ None → RepairsOf case.read rules list case.text.items case.walk most None
+none_walked rules list case most has none = none_by case.read rules list case.text.items case.walk most none has
 
 pub walked : (rules : Rules) (list : List (List ℕ)) (case : Case) (walk : Walk) → HasItsWalk rules list case → case.walk ≡ Some walk → IsWalkFor rules list case.read (Some walk)
 walked rules list case walk has is = subst (IsWalkFor rules list case.read) is has

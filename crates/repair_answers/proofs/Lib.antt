@@ -1,5 +1,8 @@
 pub mod Ranges
 pub mod Alone
+pub mod SheetTrials
+pub mod SheetsFound
+pub mod SheetChoices
 pub mod Grouped
 pub mod Tries
 pub mod Wanted

@@ -15,15 +15,22 @@ use Rattle.repair_pairs.specs.declared.found.Pairs.{Pairs}
 use Rattle.repair_answers.specs.Answers.{below_of}
 use Rattle.repair_answers.specs.Amounts.{IsAmountOf, IsAmount}
 use Rattle.repair_answers.specs.Likely.{IsLikelyOf, IsLikely}
+use Rattle.repair_answers.specs.Sheets.{sheet_room, slips_tried, AreSheetRepairs}
 use Rattle.repair_answers.specs.Unchanged.{IsUnchanged}
 use Rattle.repair_answers.specs.declared.numbers_alone.NumbersAlone.{NumbersAlone}
+use Rattle.repair_answers.specs.declared.sheet_repair.SheetRepair.{SheetRepair}
+use Rattle.repair_answers.specs.declared.likely.Likely.{Likely}
 
-pub likely_of : (rules : Rules) (list words : List (List ℕ)) (written now walked then : List Event) (numbers : Option NumbersAlone) (below : Option ℕ) (walk : Walk) (plays : List Change) (found : Found)
-    (singles : List Repair) (two : Pairs) (pairs : List Pair) (likely : Option Repair) → words ≡ list → now ≡ written → walked ≡ now → then ≡ walked → IsUnchanged rules words written numbers
-    → below ≡ below_of numbers → IsWalkOf rules words now walk → ArePlayChanges walked walk plays → AreFirstRepairs rules list walked plays below 4 found.told.items found.left.items
-    → singles ≡ found.told.items → ArePairs rules words then singles 1 two → pairs ≡ two.told.items → IsLikelyOf numbers found.told.items found.left.items pairs likely → IsLikely rules list written likely
-likely_of rules list words written now walked then numbers below walk plays found singles two pairs likely is_list same still same_too alone by of_walk are_plays repairs are_singles are_pairs are_told chosen =
+pub likely_of : (rules : Rules) (list words : List (List ℕ)) (text : List ℕ) (written now walked then last : List Event) (numbers : Option NumbersAlone) (below : Option ℕ) (walk : Walk) (plays : List Change)
+    (found : Found) (singles : List Repair) (two : Pairs) (pairs : List Pair) (sheets : List SheetRepair) (likely : Option Likely) → words ≡ list → now ≡ written → walked ≡ now → then ≡ walked
+    → last ≡ then → IsUnchanged rules words written numbers → below ≡ below_of numbers → IsWalkOf rules words now walk → ArePlayChanges walked walk plays
+    → AreFirstRepairs rules list walked plays below 4 found.told.items found.left.items → singles ≡ found.told.items → ArePairs rules words then singles 1 two → pairs ≡ two.told.items
+    → AreSheetRepairs rules words text last (sheet_room numbers) (slips_tried text last walk) sheets → IsLikelyOf numbers found.told.items found.left.items pairs sheets likely
+    → IsLikely rules list text written likely
+likely_of rules list words text written now walked then last numbers below walk plays found singles two pairs sheets likely is_list same still same_too kept alone by of_walk are_plays repairs are_singles are_pairs
+    are_told are_sheets chosen =
     let here : walked ≡ written = still ∙ same in
+    let there : last ≡ written = kept ∙ same_too ∙ here in
     record {
       numbers = numbers;
       alone = subst (λ (ws : List (List ℕ)). IsUnchanged rules ws written numbers) is_list alone;
@@ -39,7 +46,10 @@ likely_of rules list words written now walked then numbers below walk plays foun
       pairs = subst (λ (ws : List (List ℕ)). ArePairs rules ws written found.told.items 1 two) is_list
           (subst (λ (es : List Event). ArePairs rules words es found.told.items 1 two) (same_too ∙ here)
           (subst (λ (ss : List Repair). ArePairs rules words then ss 1 two) are_singles are_pairs));
-      chosen = subst (λ (ps : List Pair). IsLikelyOf numbers found.told.items found.left.items ps likely) are_told chosen;
+      sheets = sheets;
+      are_sheets = subst (λ (ws : List (List ℕ)). AreSheetRepairs rules ws text written (sheet_room numbers) (slips_tried text written walk) sheets) is_list
+          (subst (λ (es : List Event). AreSheetRepairs rules words text es (sheet_room numbers) (slips_tried text es walk) sheets) there are_sheets);
+      chosen = subst (λ (ps : List Pair). IsLikelyOf numbers found.told.items found.left.items ps sheets likely) are_told chosen;
     }
 
 -- the same for a repair of a bonus or a penalty

@@ -14,6 +14,7 @@ use Rattle.repair_pairs.specs.Pairs.{ArePairs}
 use Rattle.repair_pairs.specs.declared.found.Pairs.{Pairs}
 use Rattle.repair_answers.specs.Answers.{below_of, RepairsIn}
 use Rattle.repair_answers.specs.Lines.{AreLines, before_numbers}
+use Rattle.repair_answers.specs.Sheets.{sheet_room, slips_tried, AreSheetRepairs}
 use Rattle.repair_answers.specs.Tried.{tried_changes, many_tried}
 use Rattle.repair_answers.specs.Unchanged.{IsUnchanged}
 use Rattle.repair_answers.specs.declared.answers.Faulty.{Faulty}
@@ -51,12 +52,13 @@ pairs_wanted rules list written singles most wanted pairs is are =
     record { each = are.each; few = few_wanted (length pairs.told.items) most wanted is are.few; ordered = are.ordered; once = are.once }
 
 -- what is found of an illegal record
-pub found_of : (rules : Rules) (list words : List (List ℕ)) (written between between_too seen : List Event) (walk : Walk) (most wanted : ℕ) (below : Option ℕ) (shown singles : List Repair) (f : Faulty)
+pub found_of : (rules : Rules) (list words : List (List ℕ)) (text : List ℕ) (written between between_too seen : List Event) (walk : Walk) (most wanted : ℕ) (below : Option ℕ) (shown singles : List Repair) (f : Faulty)
     → words ≡ list → between ≡ written → IsUnchanged rules words written f.alone → below ≡ below_of f.alone → wanted ≡ min (most * 27) (2 ^ 64 - 1) → ArePlayChanges between walk f.plays.items
     → AreFirstRepairs rules list between f.plays.items below wanted f.found.told.items f.found.left.items → shown ≡ f.found.told.items → AreLines shown most f.lines.items
     → f.before_numbers ≡ before_numbers f.alone shown f.lines.items → between_too ≡ written → singles ≡ f.found.told.items → ArePairs rules words between_too singles wanted f.pairs
-    → seen ≡ written → f.tried ≡ length (tried_changes rules seen walk) + length f.plays.items → RepairsIn rules list written walk most f
-found_of rules list words written between between_too seen walk most wanted below shown singles f by same alone limit is plays first told lines numbers still of pairs kept tried =
+    → seen ≡ written → AreSheetRepairs rules words text seen (sheet_room f.alone) (slips_tried text seen walk) f.sheets.items
+    → f.tried ≡ length (tried_changes rules seen walk) + length f.plays.items → RepairsIn rules list text written walk most f
+found_of rules list words text written between between_too seen walk most wanted below shown singles f by same alone limit is plays first told lines numbers still of pairs kept sheets tried =
     let ok = f.found.told.ok in
     let small = f.found.told.small in
     let here : AreFirstRepairs rules list written f.plays.items (below_of f.alone) wanted f.found.told.items f.found.left.items =
@@ -74,5 +76,7 @@ found_of rules list words written between between_too seen walk most wanted belo
       lines = subst (λ (rs : List Repair). AreLines rs most f.lines.items) told lines;
       before = numbers ∙ ap (λ (rs : List Repair). before_numbers f.alone rs f.lines.items) told;
       pairs = pairs_wanted rules list written f.found.told.items most wanted f.pairs is both;
+      sheets = subst (λ (ws : List (List ℕ)). AreSheetRepairs rules ws text written (sheet_room f.alone) (slips_tried text written walk) f.sheets.items) by
+          (subst (λ (es : List Event). AreSheetRepairs rules words text es (sheet_room f.alone) (slips_tried text es walk) f.sheets.items) kept sheets);
       tried = tried ∙ ap (λ (es : List Event). many_tried rules es walk f.plays.items) kept;
     }

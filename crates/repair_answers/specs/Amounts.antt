@@ -1,7 +1,9 @@
 -- A bonus or a penalty that would explain wrong numbers.
-use Rattle.std.specs.Prelude.{◌≡◌, ℕ, nat_lt, ◌&&◌, Bool, true, false, List, [], ◌∷◌, Option, Some, None, if◌then◌else◌}
+use Rattle.std.specs.Prelude.{◌≡◌, ⊤, ℕ, nat_lt, ◌&&◌, Bool, true, false, List, [], ◌∷◌, Option, Some, None, if◌then◌else◌, Ok}
 use Rattle.ref_tiles.specs.declared.rulebook.Rules.{Rules}
 use Rattle.gcg_read.specs.declared.events.Event.{Event}
+use Rattle.gcg_read.specs.declared.records.Record.{Record}
+use Rattle.gcg_read.specs.Records.{record_of}
 use Rattle.game_rows.specs.declared.walking.Walk.{Walk}
 use Rattle.game_rows.specs.Walks.{IsWalkOf}
 use Rattle.play_changes.specs.PlayChanges.{ArePlayChanges}
@@ -18,6 +20,7 @@ use Rattle.repair_answers.specs.Answers.{below_of}
 use Rattle.repair_answers.specs.Choices.{alone_cost}
 use Rattle.repair_answers.specs.Unchanged.{IsUnchanged}
 use Rattle.repair_answers.specs.declared.numbers_alone.NumbersAlone.{NumbersAlone}
+use Rattle.repair_answers.specs.declared.sheet_amounts.SheetAmount.{SheetAmount}
 
 -- a bonus for a challenge or a penalty for time is missing
 abbrev pub is_missing_amount : MissingLine → Bool
@@ -31,20 +34,20 @@ is_of_amount (slip.Amount right) = true
 is_of_amount (slip.Missing m) = is_missing_amount m
 is_of_amount other = false
 
--- such a repair costs less than correcting only the numbers
-abbrev pub explains : NumbersAlone → Repair → Bool
-explains alone repair = is_of_amount repair.listed.change.slip && nat_lt (cost_in repair) (alone_cost alone)
+-- such a repair costs less than correcting only the numbers, if that makes a game or may make one
+abbrev pub costs_less : Option NumbersAlone → Repair → Bool
+costs_less None repair = true
+costs_less (Some alone) repair = nat_lt (cost_in repair) (alone_cost alone)
+
+abbrev pub explains : Option NumbersAlone → Repair → Bool
+explains alone repair = is_of_amount repair.listed.change.slip && costs_less alone repair
 
 -- the first of some repairs, if it is such a one
-abbrev pub IsAmountBy : NumbersAlone → (told : List Repair) → Option Repair → Type 0
-IsAmountBy alone [] amount = amount ≡ None
-IsAmountBy alone (first ∷ rest) amount = amount ≡ (if explains alone first then Some first else None)
-
 abbrev pub IsAmountOf : Option NumbersAlone → (told : List Repair) → Option Repair → Type 0
-IsAmountOf None told amount = amount ≡ None
-IsAmountOf (Some alone) told amount = IsAmountBy alone told amount
+IsAmountOf alone [] amount = amount ≡ None
+IsAmountOf alone (first ∷ rest) amount = amount ≡ (if explains alone first then Some first else None)
 
--- The first repair of a record, if only numbers are wrong, it is one of a bonus or a penalty, and it costs less than correcting the numbers.
+-- The first repair of a record, if it is one of a bonus or a penalty and costs less than correcting only the numbers.
 pub record IsAmount (rules : Rules) (list : List (List ℕ)) (written : List Event) (amount : Option Repair) : Type 0 where
   pub numbers : Option NumbersAlone
   pub alone : IsUnchanged rules list written numbers
@@ -56,3 +59,13 @@ pub record IsAmount (rules : Rules) (list : List (List ℕ)) (written : List Eve
   pub left : List Listed
   pub repairs : AreFirstRepairs rules list written plays (below_of numbers) 1 told left
   pub chosen : IsAmountOf numbers told amount
+
+-- that of a record, with the record
+abbrev pub IsAmountOfRecord : Rules → (list : List (List ℕ)) → Record → Option SheetAmount → Type 0
+IsAmountOfRecord rules list written None = ⊤
+IsAmountOfRecord rules list written (Some found) = (found.record ≡ written) × IsAmount rules list written.events (Some found.repair)
+
+-- What is found on a sheet is the one of the record that its text means. It is not looked for unless a total is off by some units of a bonus or a penalty.
+abbrev pub IsAmountOnSheet : Rules → (list : List (List ℕ)) → (text : List ℕ) → Option SheetAmount → Type 0
+IsAmountOnSheet rules list text None = ⊤
+IsAmountOnSheet rules list text (Some found) = (record_of text ≡ Ok found.record) × IsAmount rules list found.record.events (Some found.repair)

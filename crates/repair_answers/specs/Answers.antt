@@ -13,8 +13,10 @@ use Rattle.game_case.specs.Explaining.{case_verdict}
 use Rattle.play_changes.specs.PlayChanges.{ArePlayChanges}
 use Rattle.record_repairs.specs.Repairs.{AreFirstRepairs}
 use Rattle.repair_pairs.specs.Pairs.{ArePairs}
+use Rattle.repair_answers.specs.Chains.{IsChainOf}
 use Rattle.repair_answers.specs.Lines.{AreLines, before_numbers}
 use Rattle.repair_answers.specs.Tried.{many_tried}
+use Rattle.repair_answers.specs.Sheets.{sheet_room, slips_tried, AreSheetRepairs}
 use Rattle.repair_answers.specs.Unchanged.{IsUnchanged}
 use Rattle.repair_answers.specs.declared.numbers_alone.NumbersAlone.{NumbersAlone}
 use Rattle.repair_answers.specs.declared.answers.Faulty.{Faulty}
@@ -26,30 +28,32 @@ below_of alone = option_map (λ (a : NumbersAlone). length a.remains.wrong.items
 
 -- What repairs an illegal record: what is wrong if only its numbers are, changes of plays that a search found, which are tried too, its first repairs,
 -- as many as `most` lines can have, the lines, how many of them cost less than correcting only the numbers, pairs of changes that cost less than
--- each of these repairs, and how many changes were tried.
-pub record RepairsIn (rules : Rules) (list : List (List ℕ)) (written : List Event) (walk : Walk) (most : ℕ) (f : Faulty) : Type 0 where
+-- each of these repairs, the slips of the whole sheet that repair it, and how many changes were tried.
+pub record RepairsIn (rules : Rules) (list : List (List ℕ)) (text : List ℕ) (written : List Event) (walk : Walk) (most : ℕ) (f : Faulty) : Type 0 where
   pub alone : IsUnchanged rules list written f.alone
   pub plays : ArePlayChanges written walk f.plays.items
   pub repairs : AreFirstRepairs rules list written f.plays.items (below_of f.alone) (27 * most) f.found.told.items f.found.left.items
   pub lines : AreLines f.found.told.items most f.lines.items
   pub before : f.before_numbers ≡ before_numbers f.alone f.found.told.items f.lines.items
   pub pairs : ArePairs rules list written f.found.told.items (27 * most) f.pairs
+  pub sheets : AreSheetRepairs rules list text written (sheet_room f.alone) (slips_tried text written walk) f.sheets.items
   pub tried : f.tried ≡ many_tried rules written walk f.plays.items
 
 abbrev pub is_illegal : Finding → Bool
 is_illegal (finding.Illegal line fault) = true
 is_illegal other = false
 
-abbrev pub RepairsBy : Finding → Rules → (list : List (List ℕ)) → List Event → Option Walk → (most : ℕ) → Option Faulty → Type 0
-RepairsBy (finding.Illegal line fault) rules list written (Some walk) most (Some f) = RepairsIn rules list written walk most f
-RepairsBy (finding.Illegal line fault) rules list written walk most answer = ⊥
-RepairsBy other rules list written walk most answer = answer ≡ None
+abbrev pub RepairsBy : Finding → Rules → (list : List (List ℕ)) → (text : List ℕ) → List Event → Option Walk → (most : ℕ) → Option Faulty → Type 0
+RepairsBy (finding.Illegal line fault) rules list text written (Some walk) most (Some f) = RepairsIn rules list text written walk most f
+RepairsBy (finding.Illegal line fault) rules list text written walk most answer = ⊥
+RepairsBy other rules list text written walk most answer = answer ≡ None
 
-abbrev pub RepairsOf : Result Entry ReadFault → Rules → (list : List (List ℕ)) → Option Walk → (most : ℕ) → Option Faulty → Type 0
-RepairsOf (Ok entry) rules list walk most answer = RepairsBy entry.finding rules list entry.record.events walk most answer
-RepairsOf (Err fault) rules list walk most answer = answer ≡ None
+abbrev pub RepairsOf : Result Entry ReadFault → Rules → (list : List (List ℕ)) → (text : List ℕ) → Option Walk → (most : ℕ) → Option Faulty → Type 0
+RepairsOf (Ok entry) rules list text walk most answer = RepairsBy entry.finding rules list text entry.record.events walk most answer
+RepairsOf (Err fault) rules list text walk most answer = answer ≡ None
 
--- the verdict of a case, and what repairs its record if it is illegal
+-- the verdict of a case, what repairs its record if it is illegal, and several changes that do
 pub record IsRepairAnswer (rules : Rules) (list : List (List ℕ)) (case : Case) (most : ℕ) (answer : RepairAnswer) : Type 0 where
   pub verdict : answer.verdict ≡ case_verdict case.read
-  pub repairs : RepairsOf case.read rules list case.walk most answer.faulty
+  pub repairs : RepairsOf case.read rules list case.text.items case.walk most answer.faulty
+  pub chain : IsChainOf case.read rules list answer.chain

@@ -1,5 +1,6 @@
 -- Whether one repair is to be chosen, or the record with only its numbers corrected.
-use Rattle.std.specs.Prelude.{◌≡◌, ◌⊎◌, ⊤, ℕ, ◌+◌, ◌*◌, ◌<◌, ◌≤◌, ◌==◌, ◌&&◌, Bool, true, false, List, [], ◌∷◌, All, length, Option, Some, None}
+use Rattle.std.specs.Prelude.{◌≡◌, ◌⊎◌, ⊤, ℕ, ◌+◌, ◌*◌, ◌<◌, ◌≤◌, ◌==◌, ◌&&◌, Bool, true, false, List, [], ◌∷◌, All, length, slice_get, Option, Some, None}
+use Rattle.gcg_read.specs.declared.events.Event.{Event}
 use Rattle.record_changes.specs.declared.slips.Slip.{Slip}
 use Rattle.record_changes.specs.declared.slips.Slip.TheVariants as slip
 use Rattle.record_changes.specs.declared.slips.TileSlip.{TileSlip}
@@ -8,8 +9,11 @@ use Rattle.record_changes.specs.declared.slips.TilesOf.TheVariants as tiles_of
 use Rattle.record_repairs.specs.declared.listed.Listed.{Listed}
 use Rattle.record_repairs.specs.declared.repair.Repair.{Repair}
 use Rattle.repair_pairs.specs.declared.found.Pair.{Pair}
+use Rattle.sheet_slips.specs.declared.slips.SheetSlip.{SheetSlip}
+use Rattle.sheet_slips.specs.declared.slips.SheetSlip.TheVariants as sheet
 use Rattle.repair_answers.specs.Alike.{same_tile, cost_in}
 use Rattle.repair_answers.specs.declared.numbers_alone.NumbersAlone.{NumbersAlone}
+use Rattle.repair_answers.specs.declared.sheet_repair.SheetRepair.{SheetRepair}
 use Rattle.repair_answers.specs.declared.choices.Choice.{Choice}
 use Rattle.repair_answers.specs.declared.choices.Choice.TheVariants as choice
 
@@ -80,6 +84,72 @@ abbrev pub IsGameAlone : Option NumbersAlone → (known : Bool) → Type 0
 IsGameAlone None known = ⊥
 IsGameAlone (Some alone) known = alone.is_game ≡ known
 
+-- ---- slips of the whole sheet
+
+-- a cost is at least a wrong number below that of the first of some slips of the whole sheet
+abbrev pub IsFarBelowSheets : (cost : ℕ) → (sheets : List SheetRepair) → Type 0
+IsFarBelowSheets cost [] = ⊤
+IsFarBelowSheets cost (first ∷ rest) = cost + 5 ≤ first.cost
+
+-- whether a line is missing with a slip
+abbrev pub is_missing : Slip → Bool
+is_missing (slip.Missing line) = true
+is_missing other = false
+
+-- whether an event is on a line
+abbrev pub is_on : (line : ℕ) → Option Event → Bool
+is_on line None = false
+is_on line (Some e) = e.line == line
+
+-- A repair says less than that a line is not read, if a line is missing where that line is.
+abbrev pub says_less_than : SheetSlip → (right : List Event) → Repair → Bool
+says_less_than (sheet.Unread unread) right repair = is_missing repair.listed.change.slip && is_on unread.line (slice_get right repair.listed.change.place)
+says_less_than (sheet.Running place s) right repair = false
+
+-- a slip of the whole sheet is ahead of a repair by at least a wrong number, or the repair says less and costs no less
+abbrev pub IsAheadOfRepair : SheetRepair → Repair → Type 0
+IsAheadOfRepair s repair = ((says_less_than s.slip s.right repair ≡ true) × (s.cost ≤ cost_in repair)) ⊎ (s.cost + 5 ≤ cost_in repair)
+
+-- a cost is at least a wrong number below that of the cheapest of some pairs, and of correcting only the numbers
+abbrev pub IsFarBelowPairs : (cost : ℕ) → (pairs : List Pair) → Type 0
+IsFarBelowPairs cost [] = ⊤
+IsFarBelowPairs cost (pair ∷ rest) = cost + 5 ≤ pair.cost
+
+abbrev pub IsFarBelowNumbers : (cost : ℕ) → Option NumbersAlone → Type 0
+IsFarBelowNumbers cost None = ⊤
+IsFarBelowNumbers cost (Some alone) = cost + 5 ≤ alone_cost alone
+
+-- correcting only the numbers is ahead of the first of some slips of the whole sheet
+abbrev pub AreNumbersBelow : Option NumbersAlone → (sheets : List SheetRepair) → Type 0
+AreNumbersBelow None sheets = ⊥
+AreNumbersBelow (Some alone) sheets = IsFarBelowSheets (alone_cost alone) sheets
+
+-- a slip of the whole sheet is ahead of others, of all repairs, of two changes and of correcting only the numbers
+abbrev pub IsSheetAhead : SheetRepair → (others : List SheetRepair) → (told : List Repair) → (pairs : List Pair) → Option NumbersAlone → Type 0
+IsSheetAhead s others told pairs alone =
+    IsFarBelowSheets s.cost others × All (IsAheadOfRepair s) told × IsFarBelowPairs s.cost pairs × IsFarBelowNumbers s.cost alone
+
+-- the first of some slips of the whole sheet is ahead of all else
+abbrev pub IsSheetFirst : (told : List Repair) → (pairs : List Pair) → Option NumbersAlone → (sheets : List SheetRepair) → SheetRepair → Type 0
+IsSheetFirst told pairs alone [] s = ⊥
+IsSheetFirst told pairs alone (first ∷ rest) s = (s ≡ first) × IsSheetAhead first rest told pairs alone
+
+-- it is ahead of all of them, it is known to make a game, and every number is right without the slip
+abbrev pub IsSheetChosen : (told : List Repair) → (pairs : List Pair) → Option NumbersAlone → (sheets : List SheetRepair) → SheetRepair → Type 0
+IsSheetChosen told pairs alone sheets s = IsSheetFirst told pairs alone sheets s × (s.alone.is_game ≡ true) × (s.alone.remains.wrong.items ≡ [])
+
+abbrev pub IsNoneChosen : (told : List Repair) → (pairs : List Pair) → Option NumbersAlone → (sheets : List SheetRepair) → Type 0
+IsNoneChosen told pairs alone sheets = (s : SheetRepair) → IsSheetChosen told pairs alone sheets s → ⊥
+
+-- it is ahead of all of them, and it is not known whether it makes a game
+abbrev pub IsSheetOpen : (told : List Repair) → (pairs : List Pair) → Option NumbersAlone → (sheets : List SheetRepair) → Type 0
+IsSheetOpen told pairs alone [] = ⊥
+IsSheetOpen told pairs alone (first ∷ rest) = IsSheetAhead first rest told pairs alone × (first.alone.is_game ≡ false)
+
+-- a repair that is the first and ahead of the others is not ahead of the slips of the whole sheet
+abbrev pub IsNoneBelow : (told : List Repair) → (sheets : List SheetRepair) → Type 0
+IsNoneBelow told sheets = (r : Repair) → IsFirst told r → IsFarBelowSheets (cost_in r) sheets → ⊥
+
 -- ---- the choice
 
 -- Two changes together cost less than the first repair; or there is no repair, and correcting only the numbers is not ahead of two changes.
@@ -93,12 +163,17 @@ IsNearNumbers [] alone = ⊥
 IsNearNumbers (first ∷ rest) alone = IsAheadOfNumbers alone first → ⊥
 
 -- Which of the repairs that were found is to be chosen, if one is: none if some change is left open, and none if two changes or the numbers alone
--- are as likely. Correcting only the numbers is chosen if it is ahead of all of them and known to make a game.
-abbrev pub IsChoice : (told : List Repair) → (left : List Listed) → (pairs : List Pair) → Option NumbersAlone → Choice → Type 0
-IsChoice told left pairs alone choice.None = (left ≡ []) × (told ≡ []) × (alone ≡ None)
-IsChoice told left pairs alone choice.Open = (left ≡ [] → ⊥) ⊎ (Lead alone told pairs × IsGameAlone alone false)
-IsChoice told left pairs alone choice.Numbers = (left ≡ []) × Lead alone told pairs × IsGameAlone alone true
-IsChoice told left pairs alone choice.Pair = (left ≡ []) × (Lead alone told pairs → ⊥) × IsPairAhead told pairs alone
-IsChoice told left pairs alone choice.NearNumbers = (left ≡ []) × (Lead alone told pairs → ⊥) × IsNearNumbers told alone
-IsChoice told left pairs alone choice.Close = (left ≡ []) × AreClose told
-IsChoice told left pairs alone (choice.Clear repair) = (left ≡ []) × IsFirst told repair.now × (HasRival repair.now pairs → ⊥) × IsAheadOfNumbers alone repair.now
+-- are as likely, or a slip of the whole sheet is. Correcting only the numbers is chosen if it is ahead of all of them and known to make a game; and a slip
+-- of the whole sheet, if it is ahead of all else and known to make a game of which every number is right.
+abbrev pub IsChoice : (told : List Repair) → (left : List Listed) → (pairs : List Pair) → (sheets : List SheetRepair) → Option NumbersAlone → Choice → Type 0
+IsChoice told left pairs sheets alone choice.None = (left ≡ []) × (told ≡ []) × (alone ≡ None) × (sheets ≡ [])
+IsChoice told left pairs sheets alone choice.Open = (left ≡ [] → ⊥) ⊎ (Lead alone told pairs × IsGameAlone alone false × IsNoneChosen told pairs alone sheets) ⊎ IsSheetOpen told pairs alone sheets
+IsChoice told left pairs sheets alone choice.Numbers = (left ≡ []) × Lead alone told pairs × IsGameAlone alone true × AreNumbersBelow alone sheets
+IsChoice told left pairs sheets alone choice.Pair = (left ≡ []) × (Lead alone told pairs → ⊥) × IsPairAhead told pairs alone × IsNoneChosen told pairs alone sheets
+IsChoice told left pairs sheets alone choice.NearNumbers = (left ≡ []) × (Lead alone told pairs → ⊥) × IsNearNumbers told alone × IsNoneChosen told pairs alone sheets
+IsChoice told left pairs sheets alone choice.Close = (left ≡ []) × AreClose told × IsNoneChosen told pairs alone sheets
+IsChoice told left pairs sheets alone (choice.Clear repair) =
+    (left ≡ []) × IsFirst told repair.now × (HasRival repair.now pairs → ⊥) × IsAheadOfNumbers alone repair.now × IsFarBelowSheets (cost_in repair.now) sheets
+IsChoice told left pairs sheets alone (choice.Sheet s) = (left ≡ []) × IsSheetChosen told pairs alone sheets s.now
+IsChoice told left pairs sheets alone choice.NearSheet =
+    (left ≡ []) × (sheets ≡ [] → ⊥) × IsNoneChosen told pairs alone sheets × IsNoneBelow told sheets × (AreNumbersBelow alone sheets → ⊥)

@@ -2,7 +2,9 @@ pub mod Alike
 pub mod Tried
 pub mod Unchanged
 pub mod Choices
+pub mod Sheets
 pub mod Lines
+pub mod Chains
 pub mod Answers
 pub mod Likely
 pub mod Amounts

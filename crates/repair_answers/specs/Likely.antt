@@ -1,5 +1,5 @@
 -- The repair of a record that is likelier than all others by far.
-use Rattle.std.specs.Prelude.{◌≡◌, ℕ, List, [], Option, Some, None, Result, Ok, Err}
+use Rattle.std.specs.Prelude.{◌≡◌, ℕ, List, [], ◌∷◌, Option, Some, None, Result, Ok, Err}
 use Rattle.ref_tiles.specs.declared.rulebook.Rules.{Rules}
 use Rattle.gcg_read.specs.declared.events.Event.{Event}
 use Rattle.gcg_read.specs.declared.faults.ReadFault.{ReadFault}
@@ -17,24 +17,45 @@ use Rattle.repair_pairs.specs.declared.found.Pair.{Pair}
 use Rattle.repair_pairs.specs.declared.found.Pairs.{Pairs}
 use Rattle.repair_pairs.specs.Pairs.{ArePairs}
 use Rattle.repair_answers.specs.Answers.{below_of}
-use Rattle.repair_answers.specs.Choices.{IsFirst, HasRival, IsAheadOfNumbers}
+use Rattle.repair_answers.specs.Alike.{cost_in}
+use Rattle.repair_answers.specs.Choices.{IsFirst, HasRival, IsAheadOfNumbers, IsFarBelowSheets, IsSheetChosen, IsNoneChosen}
+use Rattle.repair_answers.specs.Sheets.{sheet_room, slips_tried, AreSheetRepairs}
 use Rattle.repair_answers.specs.Unchanged.{IsUnchanged}
 use Rattle.repair_answers.specs.declared.numbers_alone.NumbersAlone.{NumbersAlone}
+use Rattle.repair_answers.specs.declared.sheet_repair.SheetRepair.{SheetRepair}
+use Rattle.repair_answers.specs.declared.likely.Likely.{Likely}
+use Rattle.repair_answers.specs.declared.likely.Likely.TheVariants as likely_one
 
--- The likely one of some repairs: no change is left open, it is ahead of the others and of the record with only its numbers corrected, and no two changes
--- cost less.
-abbrev pub IsFarFirst : Option NumbersAlone → (told : List Repair) → (left : List Listed) → (pairs : List Pair) → Repair → Type 0
-IsFarFirst alone told left pairs repair = (left ≡ []) × IsFirst told repair × (HasRival repair pairs → ⊥) × IsAheadOfNumbers alone repair
+-- The likely one of some repairs: no change is left open, it is ahead of the others, of the slips of the whole sheet and of the record with only its
+-- numbers corrected, and no two changes cost less.
+abbrev pub IsFarFirst : Option NumbersAlone → (told : List Repair) → (left : List Listed) → (pairs : List Pair) → (sheets : List SheetRepair) → Repair → Type 0
+IsFarFirst alone told left pairs sheets repair =
+    (left ≡ []) × IsFirst told repair × (HasRival repair pairs → ⊥) × IsAheadOfNumbers alone repair × IsFarBelowSheets (cost_in repair) sheets
 
--- that one, or that there is none
-abbrev pub IsLikelyOf : Option NumbersAlone → (told : List Repair) → (left : List Listed) → (pairs : List Pair) → Option Repair → Type 0
-IsLikelyOf alone told left pairs (Some repair) = IsFarFirst alone told left pairs repair
-IsLikelyOf alone told left pairs None = (repair : Repair) → IsFarFirst alone told left pairs repair → ⊥
+-- that neither is the likely one
+pub record IsNoneLikely (alone : Option NumbersAlone) (told : List Repair) (left : List Listed) (pairs : List Pair) (sheets : List SheetRepair) : Type 0 where
+  pub change : (repair : Repair) → IsFarFirst alone told left pairs sheets repair → ⊥
+  pub sheet : left ≡ [] → IsNoneChosen told pairs alone sheets
 
--- The likely repair of a record: the first of four, if it is ahead by at least a wrong number of the others, but for those that only say less, and of
--- correcting only the numbers, and if no two changes that were found cost less. Some plays that a search found may have been tried in addition to
--- the changes of the list.
-pub record IsLikely (rules : Rules) (list : List (List ℕ)) (written : List Event) (likely : Option Repair) : Type 0 where
+-- That one, or the slip of the whole sheet that is ahead of all else; or that there is none.
+abbrev pub IsLikelyOf : Option NumbersAlone → (told : List Repair) → (left : List Listed) → (pairs : List Pair) → (sheets : List SheetRepair) → Option Likely → Type 0
+IsLikelyOf alone told left pairs sheets (Some (likely_one.Change repair)) = IsFarFirst alone told left pairs sheets repair
+IsLikelyOf alone told left pairs sheets (Some (likely_one.Sheet s)) = (left ≡ []) × IsSheetChosen told pairs alone sheets s
+IsLikelyOf alone told left pairs sheets None = IsNoneLikely alone told left pairs sheets
+
+-- the first of some repairs, and of some slips of the whole sheet
+abbrev pub IsFirstChange : (told : List Repair) → Option Likely → Type 0
+IsFirstChange [] likely = likely ≡ None
+IsFirstChange (first ∷ rest) likely = likely ≡ Some (likely_one.Change first)
+
+abbrev pub IsFirstSheet : (sheets : List SheetRepair) → Option Likely → Type 0
+IsFirstSheet [] likely = likely ≡ None
+IsFirstSheet (first ∷ rest) likely = likely ≡ Some (likely_one.Sheet first)
+
+-- The likely repair of a record: the first of four, if it is ahead by at least a wrong number of the others, but for those that only say less, of the
+-- slips of the whole sheet and of correcting only the numbers, and if no two changes that were found cost less; or the slip of the whole sheet that is
+-- ahead of all of them, without which every number is right. Some plays that a search found may have been tried in addition to the changes of the list.
+pub record IsLikely (rules : Rules) (list : List (List ℕ)) (text : List ℕ) (written : List Event) (likely : Option Likely) : Type 0 where
   pub numbers : Option NumbersAlone
   pub alone : IsUnchanged rules list written numbers
   pub walk : Walk
@@ -46,14 +67,16 @@ pub record IsLikely (rules : Rules) (list : List (List ℕ)) (written : List Eve
   pub repairs : AreFirstRepairs rules list written plays (below_of numbers) 4 told left
   pub two : Pairs
   pub pairs : ArePairs rules list written told 1 two
-  pub chosen : IsLikelyOf numbers told left two.told.items likely
+  pub sheets : List SheetRepair
+  pub are_sheets : AreSheetRepairs rules list text written (sheet_room numbers) (slips_tried text written walk) sheets
+  pub chosen : IsLikelyOf numbers told left two.told.items sheets likely
 
 -- The likely repair of a record with this finding: only an illegal one has it.
-abbrev pub IsLikelyFor : Rules → (list : List (List ℕ)) → Finding → (written : List Event) → Option Repair → Type 0
-IsLikelyFor rules list (finding.Illegal line fault) written likely = IsLikely rules list written likely
-IsLikelyFor rules list other written likely = likely ≡ None
+abbrev pub IsLikelyFor : Rules → (list : List (List ℕ)) → Finding → (text : List ℕ) → (written : List Event) → Option Likely → Type 0
+IsLikelyFor rules list (finding.Illegal line fault) text written likely = IsLikely rules list text written likely
+IsLikelyFor rules list other text written likely = likely ≡ None
 
 -- the same for the case of a text
-abbrev pub IsLikelyOfCase : Rules → (list : List (List ℕ)) → Result Entry ReadFault → Option Repair → Type 0
-IsLikelyOfCase rules list (Ok entry) likely = IsLikelyFor rules list entry.finding entry.record.events likely
-IsLikelyOfCase rules list (Err fault) likely = likely ≡ None
+abbrev pub IsLikelyOfCase : Rules → (list : List (List ℕ)) → (text : List ℕ) → Result Entry ReadFault → Option Likely → Type 0
+IsLikelyOfCase rules list text (Ok entry) likely = IsLikelyFor rules list entry.finding text entry.record.events likely
+IsLikelyOfCase rules list text (Err fault) likely = likely ≡ None

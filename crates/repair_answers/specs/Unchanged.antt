@@ -27,7 +27,7 @@ pub record AreNumbersAlone (rules : Rules) (list : List (List ℕ)) (written : L
   pub correction : IsWritable rules list written right
   pub numbers : alone.right.items ≡ map numbers_in right
   pub game : IsKnown alone.is_game rules list right
-  pub wrong : alone.remains.wrong.items ≡ wrong_lines written right
+  pub wrong : alone.remains.wrong.items ≡ wrong_lines None written right
   pub unlisted : letters_in alone.remains.unlisted.items ≡ unlisted_words rules list right
 
 -- what is found of right events: whether they are known to be a game, or that they are none

@@ -28,28 +28,31 @@ fn is_of_amount(slip: &Slip) -> bool
     }
 }
 
-/// Whether a repair is one of a bonus or a penalty, and costs less than correcting only the numbers.
-fn explains(alone: &NumbersAlone, repair: &Repair) -> bool
+/// Whether a repair is one of a bonus or a penalty, and costs less than correcting only the numbers, if that is possible.
+fn explains(alone: &Option<NumbersAlone>, repair: &Repair) -> bool
     ensures { result ≡ explains alone.now repair.now }
 {
-    is_of_amount(&repair.listed.change.slip) && cost_of(repair) < alone.cost()
+    if !is_of_amount(&repair.listed.change.slip) {
+        return false;
+    }
+    match alone {
+        Some(alone) => cost_of(repair) < alone.cost(),
+        None => true,
+    }
 }
 
 /// The first of the repairs that were found, if it is one of a bonus or a penalty, and costs less than correcting only the numbers.
 fn amount_among(alone: &Option<NumbersAlone>, found: Found) -> Option<Repair>
     ensures { IsAmountOf alone.now found.told.items result }
 {
-    let Some(alone) = alone else {
-        return None;
-    };
     match found.told.into_iter().next() {
         Some(first) if explains(alone, &first) => Some(first),
         _ => None,
     }
 }
 
-/// The first repair of a record of which only numbers are wrong, if it is one of a bonus or a penalty, and costs less than correcting the numbers: so
-/// a wrong total may not be wrong. Afterwards the record is as it was.
+/// The first repair of a record, if it is one of a bonus or a penalty and, where the record is a game once its numbers are corrected, costs less than
+/// that: so a wrong total may not be wrong. Afterwards the record is as it was.
 ///
 /// It fails only if memory runs out.
 pub fn amount_repair(

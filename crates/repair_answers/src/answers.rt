@@ -5,10 +5,13 @@ ghost use Rattle.game_case.specs.Explaining.{IsWalkFor, HasItsWalk};
 ghost use Rattle.lex_check.specs.Pairs.{list_in};
 ghost use Rattle.repair_answers.specs.Answers.{below_of, is_illegal, RepairsIn, RepairsBy, RepairsOf, IsRepairAnswer};
 
+use crate::chains::chain_of;
 use crate::evidence::{Told, before_numbers, lines_of};
 use crate::lists::many_tried;
 use crate::numbers_alone::NumbersAlone;
 use crate::pair_lines::pair_lines;
+use crate::sheet_repair::SheetRepair;
+use crate::sheets::sheet_repairs;
 use crate::singles::first_repairs;
 use crate::unchanged::unchanged;
 use call_stages::Verdict;
@@ -19,6 +22,7 @@ use lex_check::Checked;
 use record_changes::Change;
 use record_repairs::Found;
 use ref_tiles::Rules;
+use repair_chains::Chain;
 use repair_pairs::{Pairs, pairs};
 use std::alloc::{AllocError, Global};
 
@@ -42,6 +46,8 @@ pub struct Faulty {
     pub pairs: Pairs,
     /// The pairs in lines.
     pub pair_lines: Vec<Told>,
+    /// The slips of the whole sheet that repair it, those that cost least first.
+    pub sheets: Vec<SheetRepair>,
     /// How many changes were tried.
     pub tried: u128,
 }
@@ -53,6 +59,8 @@ pub struct RepairAnswer {
     pub verdict: Verdict,
     /// What repairs it, if it is illegal.
     pub faulty: Option<Faulty>,
+    /// Several changes that repair it one after the other, if they are likelier than anything simpler.
+    pub chain: Option<Chain>,
 }
 
 /// Fewer numbers and words than this may stay wrong with a repair; `None` if any number may.
@@ -65,17 +73,18 @@ pub(crate) fn below_of(alone: &Option<NumbersAlone>) -> Option<usize>
     }
 }
 
-/// What repairs an illegal record, in at most `most` lines.
+/// What repairs an illegal record, given its text, in at most `most` lines.
 fn faulty_of(
     alloc: Global,
     rules: &Rules,
     pair: &Checked<'_>,
+    text: &[u8],
     game: &mut Record,
     walk: &Walk,
     most: usize,
 ) -> Result<Faulty, AllocError>
     requires { IsWalkOf rules.now (list_in pair.now) game.old.events walk.now }
-    ensures faulty { IfOk result (RepairsIn rules.now (list_in pair.now) game.old.events walk.now most) }
+    ensures faulty { IfOk result (RepairsIn rules.now (list_in pair.now) text.now game.old.events walk.now most) }
     ensures same { OnOk result (game.new ≡ game.old) }
 {
     let list = pair.list();
@@ -88,14 +97,9 @@ fn faulty_of(
     let before = before_numbers(&alone, told, lines.as_slice());
     let pairs = pairs(alloc, rules, list, &mut game.events, told, wanted)?;
     let pair_lines = pair_lines(alloc, pairs.told.as_slice(), most)?;
-    let tried = many_tried(
-        alloc,
-        rules,
-        list,
-        walk,
-        game.events.as_slice(),
-        singles.plays.len(),
-    )?;
+    let events = game.events.as_slice();
+    let sheets = sheet_repairs(alloc, rules, list, text, events, walk, &alone)?;
+    let tried = many_tried(alloc, rules, list, walk, events, singles.plays.len())?;
     Ok(Faulty {
         alone,
         plays: singles.plays,
@@ -104,6 +108,7 @@ fn faulty_of(
         before_numbers: before,
         pairs,
         pair_lines,
+        sheets,
         tried,
     })
 }
@@ -124,18 +129,19 @@ fn faulty_entry(
     alloc: Global,
     rules: &Rules,
     pair: &Checked<'_>,
+    text: &[u8],
     entry: &mut Entry,
     walk: &Walk,
     most: usize,
 ) -> Result<Option<Faulty>, AllocError>
     requires { IsWalkOf rules.now (list_in pair.now) entry.old.record.events walk.now }
-    ensures repairs { IfOk result (RepairsBy entry.old.finding rules.now (list_in pair.now) entry.old.record.events (Some walk.now) most) }
+    ensures repairs { IfOk result (RepairsBy entry.old.finding rules.now (list_in pair.now) text.now entry.old.record.events (Some walk.now) most) }
     ensures same { OnOk result (entry.new ≡ entry.old) }
 {
     if !is_illegal(&entry.finding) {
         return Ok(None);
     }
-    let faulty = faulty_of(alloc, rules, pair, &mut entry.record, walk, most)?;
+    let faulty = faulty_of(alloc, rules, pair, text, &mut entry.record, walk, most)?;
     Ok(Some(faulty))
 }
 
@@ -144,16 +150,17 @@ fn faulty_read(
     alloc: Global,
     rules: &Rules,
     pair: &Checked<'_>,
+    text: &[u8],
     read: &mut Result<Entry, ReadFault>,
     walk: &Walk,
     most: usize,
 ) -> Result<Option<Faulty>, AllocError>
     requires { IsWalkFor rules.now (list_in pair.now) read.old (Some walk.now) }
-    ensures repairs { IfOk result (RepairsOf read.old rules.now (list_in pair.now) (Some walk.now) most) }
+    ensures repairs { IfOk result (RepairsOf read.old rules.now (list_in pair.now) text.now (Some walk.now) most) }
     ensures same { OnOk result (read.new ≡ read.old) }
 {
     match read {
-        Ok(entry) => faulty_entry(alloc, rules, pair, entry, walk, most),
+        Ok(entry) => faulty_entry(alloc, rules, pair, text, entry, walk, most),
         Err(_) => Ok(None),
     }
 }
@@ -168,11 +175,14 @@ fn faulty_in(
     most: usize,
 ) -> Result<Option<Faulty>, AllocError>
     requires { HasItsWalk rules.now (list_in pair.now) case.old }
-    ensures repairs { IfOk result (RepairsOf case.old.read rules.now (list_in pair.now) case.old.walk most) }
+    ensures repairs { IfOk result (RepairsOf case.old.read rules.now (list_in pair.now) case.old.text.items case.old.walk most) }
     ensures same { OnOk result (case.new ≡ case.old) }
 {
     match &case.walk {
-        Some(walk) => faulty_read(alloc, rules, pair, &mut case.read, walk, most),
+        Some(walk) => {
+            let text = case.text.as_slice();
+            faulty_read(alloc, rules, pair, text, &mut case.read, walk, most)
+        }
         None => Ok(None),
     }
 }
@@ -194,5 +204,10 @@ pub fn answer_repairs(
 {
     let verdict = case_verdict(case);
     let faulty = faulty_in(alloc, rules, pair, case, most)?;
-    Ok(RepairAnswer { verdict, faulty })
+    let chain = chain_of(alloc, rules, pair, &mut case.read, &faulty)?;
+    Ok(RepairAnswer {
+        verdict,
+        faulty,
+        chain,
+    })
 }

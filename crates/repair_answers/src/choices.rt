@@ -6,6 +6,8 @@ ghost use Rattle.repair_answers.specs.Choices.{says_less, leaves_out_tile, says_
 use crate::alike::same_tile;
 use crate::answers::Faulty;
 use crate::numbers_alone::{NUMBER, NumbersAlone};
+use crate::sheet_choices::with_sheets;
+use crate::sheet_repair::SheetRepair;
 use record_changes::{Slip, TileSlip, TilesOf};
 use record_repairs::{Found, Repair};
 use repair_pairs::Pair;
@@ -25,8 +27,12 @@ pub enum Choice<'a> {
     NearNumbers,
     /// Another repair, which does not only say less, is less than a wrong number behind the first.
     Close,
+    /// A slip of the whole sheet is as likely as what would be chosen otherwise, or nearly so; or it is ahead, but leaves numbers wrong.
+    NearSheet,
     /// The first repair is ahead of all others by at least a wrong number, but for those that only say less.
     Clear(&'a Repair),
+    /// This slip of the whole sheet is ahead of all else by at least a wrong number, and every number is right without it.
+    Sheet(&'a SheetRepair),
 }
 
 /// What a repair costs.
@@ -81,7 +87,7 @@ fn says_less(first: &Repair, other: &Repair) -> bool
 }
 
 /// Whether a cost is ahead of another one by at least a wrong number.
-fn is_far_below(cost: u128, other: u128) -> bool
+pub(crate) fn is_far_below(cost: u128, other: u128) -> bool
     ensures { IsTrue result ↔ (cost + 5 ≤ other) }
 {
     other.saturating_sub(cost) >= NUMBER
@@ -154,7 +160,7 @@ fn lead(alone: &Option<NumbersAlone>, told: &[Repair], pairs: &[Pair]) -> bool
 /// The choice, if correcting only the numbers is ahead of all changes.
 fn by_numbers<'a>(alone: &Option<NumbersAlone>, told: &'a [Repair], pairs: &[Pair]) -> Choice<'a>
     requires { Lead alone.now told.now pairs.now }
-    ensures { IsChoice told.now [] pairs.now alone.now result }
+    ensures { IsChoice told.now [] pairs.now [] alone.now result }
 {
     match alone {
         Some(alone) if alone.is_game => Choice::Numbers,
@@ -171,7 +177,7 @@ fn without_repair<'a>(
 ) -> Choice<'a>
     requires told { told.now ≡ [] }
     requires behind { Lead alone.now told.now pairs.now → ⊥ }
-    ensures { IsChoice told.now [] pairs.now alone.now result }
+    ensures { IsChoice told.now [] pairs.now [] alone.now result }
 {
     match alone {
         Some(_) => Choice::Pair,
@@ -182,7 +188,7 @@ fn without_repair<'a>(
 /// The choice, if there is a repair and correcting only the numbers is not ahead of all changes.
 fn by_repairs<'a>(alone: &Option<NumbersAlone>, told: &'a [Repair], pairs: &[Pair]) -> Choice<'a>
     requires { Lead alone.now told.now pairs.now → ⊥ }
-    ensures { IsChoice told.now [] pairs.now alone.now result }
+    ensures { IsChoice told.now [] pairs.now [] alone.now result }
 {
     let [first, rest @ ..] = told else {
         return without_repair(alone, told, pairs);
@@ -198,18 +204,14 @@ fn by_repairs<'a>(alone: &Option<NumbersAlone>, told: &'a [Repair], pairs: &[Pai
     }
 }
 
-/// Which of some repairs is to be chosen, if one is, given some pairs that were found too, and what is wrong if only the numbers are.
-pub(crate) fn choice_among<'a>(
-    found: &'a Found,
+/// The choice, if there is no slip of the whole sheet that repairs the record.
+fn without_sheets<'a>(
+    told: &'a [Repair],
     pairs: &[Pair],
     alone: &Option<NumbersAlone>,
 ) -> Choice<'a>
-    ensures { IsChoice found.now.told.items found.now.left.items pairs.now alone.now result }
+    ensures { IsChoice told.now [] pairs.now [] alone.now result }
 {
-    if !found.left.is_empty() {
-        return Choice::Open;
-    }
-    let told = found.told.as_slice();
     if lead(alone, told, pairs) {
         by_numbers(alone, told, pairs)
     } else {
@@ -217,9 +219,35 @@ pub(crate) fn choice_among<'a>(
     }
 }
 
+/// Which of some repairs is to be chosen, if one is, given some pairs and slips of the whole sheet that were found too, and what is wrong if only the
+/// numbers are.
+pub(crate) fn choice_among<'a>(
+    found: &'a Found,
+    pairs: &[Pair],
+    sheets: &'a [SheetRepair],
+    alone: &Option<NumbersAlone>,
+) -> Choice<'a>
+    ensures { IsChoice found.now.told.items found.now.left.items pairs.now sheets.now alone.now result }
+{
+    if !found.left.is_empty() {
+        return Choice::Open;
+    }
+    let told = found.told.as_slice();
+    let without = without_sheets(told, pairs, alone);
+    match sheets {
+        [] => without,
+        [first, rest @ ..] => with_sheets(without, first, rest, told, pairs, alone),
+    }
+}
+
 /// Which of the repairs that were found is to be chosen, if one is.
 pub fn choice_of(faulty: &Faulty) -> Choice<'_>
-    ensures { IsChoice faulty.now.found.told.items faulty.now.found.left.items faulty.now.pairs.told.items faulty.now.alone result }
+    ensures { IsChoice faulty.now.found.told.items faulty.now.found.left.items faulty.now.pairs.told.items faulty.now.sheets.items faulty.now.alone result }
 {
-    choice_among(&faulty.found, faulty.pairs.told.as_slice(), &faulty.alone)
+    choice_among(
+        &faulty.found,
+        faulty.pairs.told.as_slice(),
+        faulty.sheets.as_slice(),
+        &faulty.alone,
+    )
 }

@@ -6,12 +6,18 @@
 mod alike;
 mod amounts;
 mod answers;
+mod chains;
 mod choices;
 mod evidence;
 mod likely;
 mod lists;
 mod numbers_alone;
+mod order;
 mod pair_lines;
+mod sheet_amounts;
+mod sheet_choices;
+mod sheet_repair;
+mod sheets;
 mod singles;
 mod unchanged;
 
@@ -19,5 +25,8 @@ pub use amounts::amount_repair;
 pub use answers::{Faulty, RepairAnswer, answer_repairs};
 pub use choices::{Choice, choice_of};
 pub use evidence::Told;
-pub use likely::{likely_in, likely_in_case, likely_repair};
+pub use likely::{Likely, likely_in, likely_in_case, likely_repair};
 pub use numbers_alone::NumbersAlone;
+pub use order::{Item, items_of};
+pub use sheet_amounts::{SheetAmount, amount_on_sheet};
+pub use sheet_repair::SheetRepair;

@@ -1,11 +1,13 @@
 //! The repair of a record that is likelier than all others by far.
 ghost use Rattle.std.specs.Prelude.{◌≡◌, IfOk, OnOk};
 ghost use Rattle.lex_check.specs.Pairs.{list_in};
-ghost use Rattle.repair_answers.specs.Likely.{IsLikelyOf, IsLikely, IsLikelyFor, IsLikelyOfCase};
+ghost use Rattle.repair_answers.specs.Likely.{IsFirstChange, IsFirstSheet, IsLikelyOf, IsLikely, IsLikelyFor, IsLikelyOfCase};
 
 use crate::answers::below_of;
 use crate::choices::{Choice, choice_among};
 use crate::numbers_alone::NumbersAlone;
+use crate::sheet_repair::SheetRepair;
+use crate::sheets::sheet_repairs;
 use crate::singles::first_repairs;
 use crate::unchanged::unchanged;
 use game_case::{Case, Entry, Finding};
@@ -20,18 +22,72 @@ use std::alloc::{AllocError, Global};
 /// How many repairs are looked for: the first, two that only say less, and another one.
 const WANTED: usize = 4;
 
-/// The first of the repairs that were found, if it is the likely one, given some pairs that were found too.
-fn chosen(alone: &Option<NumbersAlone>, found: Found, pairs: &[Pair]) -> Option<Repair>
-    ensures { IsLikelyOf alone.now found.told.items found.left.items pairs.now result }
-{
-    match choice_among(&found, pairs, alone) {
-        Choice::Clear(_) => found.told.into_iter().next(),
-        _ => None,
+/// What repairs a record and is likelier than all else by far.
+#[derive(Drop)]
+pub enum Likely {
+    /// A single change.
+    Change(Repair),
+    /// A slip of the whole sheet.
+    Sheet(SheetRepair),
+}
+
+impl Likely {
+    /// The change, if it is a single one.
+    pub fn as_change(&self) -> Option<&Repair> {
+        match self {
+            Likely::Change(repair) => Some(repair),
+            Likely::Sheet(_) => None,
+        }
     }
 }
 
-/// The likely repair of a record: the first, if it is ahead by at least a wrong number of all others, but for those that only say less, and of the
-/// record with only its numbers corrected, and if no two changes cost less. Afterwards the record is as it was.
+/// The first of some repairs.
+fn first_change(told: Vec<Repair>) -> Option<Likely>
+    ensures { IsFirstChange told.items result }
+{
+    match told.into_iter().next() {
+        Some(repair) => Some(Likely::Change(repair)),
+        None => None,
+    }
+}
+
+/// The first of some slips of the whole sheet.
+fn first_sheet(sheets: Vec<SheetRepair>) -> Option<Likely>
+    ensures { IsFirstSheet sheets.items result }
+{
+    match sheets.into_iter().next() {
+        Some(repair) => Some(Likely::Sheet(repair)),
+        None => None,
+    }
+}
+
+/// The first of the repairs that were found, if it is the likely one, given some pairs that were found too; or the first of the slips of the whole sheet,
+/// if it is.
+#[tactic(auto, using(crate::proofs::SheetChoices::likely_so))]
+fn chosen(
+    alone: &Option<NumbersAlone>,
+    found: Found,
+    pairs: &[Pair],
+    sheets: Vec<SheetRepair>,
+) -> Option<Likely>
+    ensures { IsLikelyOf alone.now found.told.items found.left.items pairs.now sheets.items result }
+{
+    match choice_among(&found, pairs, sheets.as_slice(), alone) {
+        Choice::Clear(_) => first_change(found.told),
+        Choice::Sheet(_) => first_sheet(sheets),
+        Choice::None => None,
+        Choice::Open => None,
+        Choice::Numbers => None,
+        Choice::Pair => None,
+        Choice::NearNumbers => None,
+        Choice::Close => None,
+        Choice::NearSheet => None,
+    }
+}
+
+/// The likely repair of a record, given its text: the first, if it is ahead by at least a wrong number of all others, but for those that only say less, of the
+/// slips of the whole sheet and the record with only its numbers corrected, and if no two changes cost less; or a slip of the whole sheet that is ahead of
+/// all of them, without which every number is right. Afterwards the record is as it was.
 ///
 /// It fails only if memory runs out.
 pub fn likely_repair(
@@ -39,8 +95,9 @@ pub fn likely_repair(
     rules: &Rules,
     pair: &Checked<'_>,
     game: &mut Record,
-) -> Result<Option<Repair>, AllocError>
-    ensures likely { IfOk result (IsLikely rules.now (list_in pair.now) game.old.events) }
+    text: &[u8],
+) -> Result<Option<Likely>, AllocError>
+    ensures likely { IfOk result (IsLikely rules.now (list_in pair.now) text.now game.old.events) }
     ensures same { OnOk result (game.new ≡ game.old) }
 {
     let list = pair.list();
@@ -56,10 +113,19 @@ pub fn likely_repair(
         singles.found.told.as_slice(),
         1,
     )?;
-    Ok(chosen(&alone, singles.found, two.told.as_slice()))
+    let sheets = sheet_repairs(
+        alloc,
+        rules,
+        list,
+        text,
+        game.events.as_slice(),
+        &walk,
+        &alone,
+    )?;
+    Ok(chosen(&alone, singles.found, two.told.as_slice(), sheets))
 }
 
-/// The likely repair of a record that was judged, if it is illegal. Afterwards the entry is as it was.
+/// The likely repair of a record that was judged, if it is illegal, given its text. Afterwards the entry is as it was.
 ///
 /// It fails only if memory runs out.
 pub fn likely_in(
@@ -67,12 +133,13 @@ pub fn likely_in(
     rules: &Rules,
     pair: &Checked<'_>,
     entry: &mut Entry,
-) -> Result<Option<Repair>, AllocError>
-    ensures likely { IfOk result (IsLikelyFor rules.now (list_in pair.now) entry.old.finding entry.old.record.events) }
+    text: &[u8],
+) -> Result<Option<Likely>, AllocError>
+    ensures likely { IfOk result (IsLikelyFor rules.now (list_in pair.now) entry.old.finding text.now entry.old.record.events) }
     ensures same { OnOk result (entry.new ≡ entry.old) }
 {
     match entry.finding {
-        Finding::Illegal { .. } => likely_repair(alloc, rules, pair, &mut entry.record),
+        Finding::Illegal { .. } => likely_repair(alloc, rules, pair, &mut entry.record, text),
         _ => Ok(None),
     }
 }
@@ -85,12 +152,12 @@ pub fn likely_in_case(
     rules: &Rules,
     pair: &Checked<'_>,
     case: &mut Case,
-) -> Result<Option<Repair>, AllocError>
-    ensures likely { IfOk result (IsLikelyOfCase rules.now (list_in pair.now) case.old.read) }
+) -> Result<Option<Likely>, AllocError>
+    ensures likely { IfOk result (IsLikelyOfCase rules.now (list_in pair.now) case.old.text.items case.old.read) }
     ensures same { OnOk result (case.new ≡ case.old) }
 {
     match &mut case.read {
-        Ok(entry) => likely_in(alloc, rules, pair, entry),
+        Ok(entry) => likely_in(alloc, rules, pair, entry, case.text.as_slice()),
         Err(_) => Ok(None),
     }
 }

@@ -1,13 +1,16 @@
 //! An answer as an object.
 
+use crate::chains::{ChainObject, chain_object};
 use crate::changes::{RepairObject, repair_object};
 use crate::evidence::{EvidenceObject, evidence_object};
 use crate::pairs::{PairObject, pair_object};
+use crate::sheets::{SheetObject, sheet_object};
 use answer_json::{
     FaultObject, UnreadObject, VerdictFields, push_object, unread_objects, verdict_fields,
 };
 use gcg_read::Record;
 use repair_answers::{Faulty, RepairAnswer};
+use repair_chains::Chain;
 use serde::Serialize;
 use std::alloc::{AllocError, Global};
 use unread_lines::UnreadLine;
@@ -22,9 +25,11 @@ struct AnswerObject {
     numbers_alone: Option<EvidenceObject>,
     repairs: Vec<RepairObject>,
     pairs: Vec<PairObject>,
+    chain: Option<ChainObject>,
     left: Option<usize>,
     tried: Option<u128>,
     numbers_alone_settled: Option<bool>,
+    sheet_slips: Vec<SheetObject>,
     unread_lines: Vec<UnreadObject>,
 }
 
@@ -71,6 +76,19 @@ fn pair_objects(
     Ok(objects)
 }
 
+/// The slips of the whole sheet that repair the record.
+fn sheet_objects(
+    alloc: Global,
+    record: &Record,
+    faulty: &Faulty,
+) -> Result<Vec<SheetObject>, AllocError> {
+    let mut objects = Vec::new(alloc);
+    for repair in faulty.sheets.as_slice() {
+        objects.push(sheet_object(alloc, record, repair)?)?;
+    }
+    Ok(objects)
+}
+
 /// What is wrong if only the numbers are.
 fn alone_object(
     alloc: Global,
@@ -92,6 +110,7 @@ fn faulty_object(
     fields: VerdictFields,
     record: &Record,
     faulty: &Faulty,
+    chain: &Option<Chain>,
     unread_lines: Vec<UnreadObject>,
 ) -> Result<AnswerObject, AllocError> {
     Ok(AnswerObject {
@@ -102,9 +121,11 @@ fn faulty_object(
         numbers_alone: alone_object(alloc, record, faulty)?,
         repairs: repair_objects(alloc, record, faulty)?,
         pairs: pair_objects(alloc, record, faulty)?,
+        chain: chain_object(alloc, record, chain)?,
         left: Some(faulty.found.left.len()),
         tried: Some(faulty.tried),
         numbers_alone_settled: faulty.alone.as_ref().map(|alone| alone.is_game),
+        sheet_slips: sheet_objects(alloc, record, faulty)?,
         unread_lines,
     })
 }
@@ -123,9 +144,11 @@ fn bare_object(
         numbers_alone: None,
         repairs: Vec::new(alloc),
         pairs: Vec::new(alloc),
+        chain: None,
         left: None,
         tried: None,
         numbers_alone_settled: None,
+        sheet_slips: Vec::new(alloc),
         unread_lines,
     }
 }
@@ -143,7 +166,7 @@ pub fn push_repair_answer(
     let fields = verdict_fields(alloc, &answer.verdict)?;
     let unread = unread_objects(alloc, unread)?;
     let object = match &answer.faulty {
-        Some(faulty) => faulty_object(alloc, fields, record, faulty, unread)?,
+        Some(faulty) => faulty_object(alloc, fields, record, faulty, &answer.chain, unread)?,
         None => bare_object(alloc, fields, unread),
     };
     push_object(alloc, text, &object)

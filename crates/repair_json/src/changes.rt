@@ -1,14 +1,16 @@
 //! A repair as an object.
 
 use crate::evidence::{EvidenceObject, evidence_object};
-use crate::slip_names::slip_name;
+use crate::sheets::{SheetLines, sheet_lines};
+use crate::slip_names::{sheet_slip_name, slip_name};
 use answer_json::text_of;
 use gcg_read::{Event, Players, Record};
 use gcg_write::line_text;
 use record_changes::{Change, Slip, Spot, numbers_with, spot_of, weight_of, wrong_events};
 use record_repairs::Repair;
-use repair_answers::Told;
+use repair_answers::{SheetRepair, Told};
 use serde::Serialize;
+use sheet_slips::weight_of as weight_of_sheet;
 use std::alloc::{AllocError, Global};
 
 /// A repair: where it is, the lines of the sheet that it replaces, the right lines, and the evidence.
@@ -66,7 +68,11 @@ fn right_events(slip: &Slip) -> usize {
 }
 
 /// The line of an event, as records write it.
-fn event_text(alloc: Global, players: &Players, event: &Event) -> Result<String, AllocError> {
+pub(crate) fn event_text(
+    alloc: Global,
+    players: &Players,
+    event: &Event,
+) -> Result<String, AllocError> {
     let mut line = Vec::new(alloc);
     line_text(players, event, &mut line)?;
     text_of(alloc, line.as_slice())
@@ -156,4 +162,31 @@ pub fn single_object(
         others: Vec::new(alloc),
     };
     repair_object(alloc, record, &[], repair, &told)
+}
+
+/// A slip of the whole sheet that repairs a record, as a single repair: the lines of the sheet that it changes, and the right lines.
+///
+/// It fails only if memory runs out.
+pub fn whole_object(
+    alloc: Global,
+    record: &Record,
+    repair: &SheetRepair,
+) -> Result<RepairObject, AllocError> {
+    let SheetLines {
+        line,
+        replaces,
+        lines,
+    } = sheet_lines(alloc, record, repair)?;
+    let numbers = 2 * repair.right.len() as u128;
+    Ok(RepairObject {
+        at: "on",
+        line,
+        slip: sheet_slip_name(&repair.slip),
+        replaces,
+        lines,
+        others: Vec::new(alloc),
+        weight: weight_of_sheet(&repair.slip),
+        cost: repair.cost,
+        evidence: evidence_object(alloc, &repair.alone.remains, numbers)?,
+    })
 }

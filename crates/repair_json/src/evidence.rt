@@ -2,7 +2,7 @@
 
 use answer_json::text_of;
 use event_notes::SpelledWord;
-use game_sheets::WrongNumber;
+use game_sheets::{WrongNumber, due};
 use record_repairs::Remains;
 use serde::Serialize;
 use std::alloc::{AllocError, Global};
@@ -46,8 +46,9 @@ fn wrong_object(number: &WrongNumber) -> Option<WrongObject> {
         WrongNumber::Sum {
             line,
             written,
+            sum,
             right,
-        } => Some(wrong_on("sum", *line, *written, *right)),
+        } => Some(wrong_on("sum", *line, *written, due(*sum, *right))),
         WrongNumber::Total { .. } => None,
     }
 }

@@ -5,10 +5,12 @@
 #![tactic(auto)]
 
 mod answers;
+mod chains;
 mod changes;
 mod evidence;
 mod pairs;
+mod sheets;
 mod slip_names;
 
 pub use answers::{push_no_game, push_repair_answer};
-pub use changes::{RepairObject, single_object};
+pub use changes::{RepairObject, single_object, whole_object};

@@ -10,9 +10,9 @@ use repair_pairs::{Head, Pair, Pairs};
 use serde::Serialize;
 use std::alloc::{AllocError, Global};
 
-/// One of two changes: where it is, the lines of the sheet that it replaces, and the right lines.
+/// One of several changes: where it is, the lines of the sheet that it replaces, and the right lines.
 #[derive(Drop, Serialize)]
-struct ChangeObject {
+pub(crate) struct ChangeObject {
     at: &'static str,
     line: u32,
     slip: &'static str,
@@ -30,8 +30,8 @@ pub(crate) struct PairObject {
     evidence: EvidenceObject,
 }
 
-/// One of two changes, by the events that it changes.
-fn change_object(
+/// One of several changes, by the events that it changes.
+pub(crate) fn change_object(
     alloc: Global,
     players: &Players,
     events: &[Event],

@@ -1,6 +1,7 @@
 //! The names of slips.
 
 use record_changes::{CodeSlip, MissingLine, PositionSlip, Slip, SpellingSlip, TileSlip, TilesOf};
+use sheet_slips::{RunningSlip, SheetSlip, Way};
 
 /// The name of a slip of a position.
 fn position_name(slip: &PositionSlip) -> &'static str {
@@ -104,5 +105,33 @@ pub(crate) fn slip_name(slip: &Slip) -> &'static str {
         Slip::Swapped => "lines interchanged",
         Slip::SwappedOver => "lines interchanged over another",
         Slip::Missing(line) => missing_name(line),
+    }
+}
+
+/// The name of places that are one square off, if the right ones are there, seen from them.
+fn off_name(way: Way) -> &'static str {
+    match way {
+        Way::Left => "places one column too far right",
+        Way::Right => "places one column too far left",
+        Way::Up => "places one row too far down",
+        Way::Down => "places one row too far up",
+    }
+}
+
+/// The name of a slip that runs through the sheet.
+fn running_name(slip: RunningSlip) -> &'static str {
+    match slip {
+        RunningSlip::Interchanged => "rows and columns interchanged",
+        RunningSlip::OneOff(way) => off_name(way),
+        RunningSlip::OtherCase => "small letters and capitals interchanged",
+        RunningSlip::OtherPlayer => "players interchanged",
+    }
+}
+
+/// The name of a slip of the whole sheet.
+pub(crate) fn sheet_slip_name(slip: &SheetSlip) -> &'static str {
+    match slip {
+        SheetSlip::Unread(_) => "line not read",
+        SheetSlip::Running { slip, .. } => running_name(*slip),
     }
 }

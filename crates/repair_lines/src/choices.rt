@@ -3,13 +3,25 @@
 use game_case::Case;
 use gcg_read::Players;
 use record_repairs::Repair;
-use repair_answers::{Choice, RepairAnswer, choice_of};
-use repaired_sheets::can_be_written;
+use repair_answers::{Choice, RepairAnswer, SheetRepair, choice_of};
+use repaired_sheets::{can_be_without, can_be_written};
 use std::alloc::AllocError;
 
 /// Appends that the sheet with a repair is written, or why it cannot be.
 fn push_written(text: &mut Vec<u8>, players: &Players, repair: &Repair) -> Result<(), AllocError> {
     if can_be_written(players, repair.right.as_slice()) {
+        return text.extend_from_slice(b"written: the sheet with the first repair\n");
+    }
+    text.extend_from_slice(b"not written: a player of the repaired sheet has no nickname\n")
+}
+
+/// Appends that the sheet without a slip is written, or why it cannot be.
+fn push_without(
+    text: &mut Vec<u8>,
+    players: &Players,
+    repair: &SheetRepair,
+) -> Result<(), AllocError> {
+    if can_be_without(players, &repair.slip, repair.right.as_slice()) {
         return text.extend_from_slice(b"written: the sheet with the first repair\n");
     }
     text.extend_from_slice(b"not written: a player of the repaired sheet has no nickname\n")
@@ -31,6 +43,10 @@ pub fn push_choice(
     };
     match choice_of(faulty) {
         Choice::Clear(repair) => push_written(text, &entry.record.players, repair),
+        Choice::Sheet(repair) => push_without(text, &entry.record.players, repair),
+        Choice::NearSheet => text.extend_from_slice(
+            b"not written: a slip of the whole sheet is as likely as another repair, or nearly so, or leaves numbers wrong\n",
+        ),
         Choice::Numbers => text.extend_from_slice(b"written: the sheet with its right numbers\n"),
         Choice::None => text.extend_from_slice(b"not written: no single change repairs it\n"),
         Choice::Open => {

@@ -1,16 +1,21 @@
 //! The lines of an answer.
 
+use crate::chains::push_chain;
 use crate::letters::push_difference;
+use crate::sheets::push_sheet;
 use decimal_text::push_number;
 use game_case::{Case, case_line};
 use gcg_read::Record;
 use record_changes::{numbers_with, numbers_with_both, second_spot};
 use record_repairs::Repair;
-use repair_answers::{Faulty, RepairAnswer, Told};
+use repair_answers::{Faulty, Item, RepairAnswer, Told, items_of};
 use repair_pairs::{Head, Pair, Pairs};
 use repair_words::{push_change, push_change_at, push_change_of, push_evidence};
 use sentence_parts::{Part, say};
 use std::alloc::{AllocError, Global};
+
+/// How many words that are not in the list may come from slips.
+const WORDS_OF_SLIPS: usize = 3;
 
 /// Appends what the other repairs of a line have where they differ from the first.
 fn push_others(text: &mut Vec<u8>, repairs: &[Repair], others: &[usize]) -> Result<(), AllocError> {
@@ -130,17 +135,24 @@ fn push_alone(text: &mut Vec<u8>, record: &Record, faulty: &Faulty) -> Result<()
     push_evidence(text, &alone.remains, 2 * record.events.len() as u128)
 }
 
-/// Appends lines of repairs.
-fn push_lines(
+/// Appends one of the things that are told of an illegal record.
+fn push_item(
     text: &mut Vec<u8>,
     record: &Record,
     faulty: &Faulty,
-    lines: &[Told],
+    item: Item,
 ) -> Result<(), AllocError> {
-    for told in lines {
-        push_told(text, record, faulty.found.told.as_slice(), told)?;
+    match item {
+        Item::Line(number) => match faulty.lines.as_slice().get(number) {
+            Some(told) => push_told(text, record, faulty.found.told.as_slice(), told),
+            None => Ok(()),
+        },
+        Item::Numbers => push_alone(text, record, faulty),
+        Item::Sheet(number) => match faulty.sheets.as_slice().get(number) {
+            Some(repair) => push_sheet(text, record, repair),
+            None => Ok(()),
+        },
     }
-    Ok(())
 }
 
 /// Appends that no single change helps, if that is so.
@@ -175,17 +187,38 @@ fn push_left(text: &mut Vec<u8>, faulty: &Faulty) -> Result<(), AllocError> {
     )
 }
 
-/// The first lines, and those after them.
-fn cut_at(lines: &[Told], number: usize) -> (&[Told], &[Told]) {
-    lines.split_at(number.min(lines.len()))
+/// Appends that the game may have been played with another list, if with only its numbers corrected the record is a game, or may be one, and more words are
+/// not in the list than come from slips.
+fn push_other_list(text: &mut Vec<u8>, faulty: &Faulty) -> Result<(), AllocError> {
+    let Some(alone) = &faulty.alone else {
+        return Ok(());
+    };
+    let unlisted = alone.remains.unlisted.len();
+    if unlisted <= WORDS_OF_SLIPS {
+        return Ok(());
+    }
+    say(
+        text,
+        &[
+            Part::Things(unlisted, "word"),
+            Part::Say(
+                " of the plays are not in the list: perhaps the game was played with another word list\n",
+            ),
+        ],
+    )
 }
 
 /// Appends what repairs an illegal record, in the order of what it costs.
-fn push_faulty(text: &mut Vec<u8>, record: &Record, faulty: &Faulty) -> Result<(), AllocError> {
-    let (before, after) = cut_at(faulty.lines.as_slice(), faulty.before_numbers);
-    push_lines(text, record, faulty, before)?;
-    push_alone(text, record, faulty)?;
-    push_lines(text, record, faulty, after)?;
+fn push_faulty(
+    alloc: Global,
+    text: &mut Vec<u8>,
+    record: &Record,
+    faulty: &Faulty,
+) -> Result<(), AllocError> {
+    push_other_list(text, faulty)?;
+    for item in items_of(alloc, faulty)? {
+        push_item(text, record, faulty, item)?;
+    }
     push_none(text, faulty)?;
     push_left(text, faulty)?;
     push_pairs(text, record, faulty)
@@ -203,7 +236,10 @@ pub fn push_repairs(
     let line = case_line(alloc, case)?;
     text.extend_from_slice(line.as_slice())?;
     match (&case.read, &answer.faulty) {
-        (Ok(entry), Some(faulty)) => push_faulty(text, &entry.record, faulty),
+        (Ok(entry), Some(faulty)) => {
+            push_faulty(alloc, text, &entry.record, faulty)?;
+            push_chain(text, &entry.record, &answer.chain)
+        }
         _ => Ok(()),
     }
 }

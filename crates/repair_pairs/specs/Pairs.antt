@@ -24,10 +24,15 @@ pub record IsHead (rules : Rules) (list : List (List ℕ)) (written : List Event
 abbrev pub ConcernsSheet : (made : List Event) → Change → Type 0
 ConcernsSheet made change = All (λ (e : Event). e.line ≡ 0 → ⊥) (take (wrong_events change.slip) (drop change.place made))
 
+-- a step is such a change whose lines are on the sheet
+pub record IsStep (rules : Rules) (list : List (List ℕ)) (written : List Event) (step : Head) : Type 0 where
+  pub head : IsHead rules list written step
+  pub lines : ConcernsSheet written step.first.change
+
 -- whether a wrong number is on the sheet
 abbrev pub is_on_sheet : WrongNumber → Bool
 is_on_sheet (number.Score line written right) = not (line == 0)
-is_on_sheet (number.Sum line written right) = not (line == 0)
+is_on_sheet (number.Sum line written sum right) = not (line == 0)
 is_on_sheet (number.Total player written right) = true
 
 abbrev pub WrongOnSheet : Repair → Type 0

@@ -7,7 +7,7 @@ use crate::made::lines_there;
 use change_lists::slips_at;
 use event_notes::unlisted_of;
 use game_rows::{Row, Walk, walk_as_written};
-use game_sheets::{had_before, mend};
+use game_sheets::{had_before, is_right_sum, mend};
 use game_turns::{Machine, withdraws};
 use gcg_read::{Event, Events};
 use lex_list::WordList;
@@ -28,7 +28,7 @@ pub(crate) struct HeadAt {
     /// Its number among the changes there.
     pub(crate) index: usize,
     /// What it costs up to the first refused event.
-    cost: u128,
+    pub(crate) cost: u128,
 }
 
 /// The place from which a change has to be tried: the one before it, if the event there is taken back with the change but not without it, or the other
@@ -109,12 +109,12 @@ fn wrong_on(row: &Row, had: i32) -> u128
     requires { IsPoints had }
     ensures { result ≤ 2 }
 {
-    let score = row.written.score.value();
     let mut wrong = 0;
-    if score != row.right.score.value() {
+    if row.written.score.value() != row.right.score.value() {
         wrong += 1;
     }
-    if row.written.total.value() != had + score {
+    let right = Some(row.right.total.value());
+    if !is_right_sum(row.written.total, had, row.written.score, right) {
         wrong += 1;
     }
     wrong

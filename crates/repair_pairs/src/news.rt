@@ -8,7 +8,7 @@ use record_changes::{Change, weight_of, wrong_events};
 use record_repairs::{Repair, makes};
 
 /// Whether each line that a change concerns is on the sheet, and not one that a first change added.
-fn concerns_sheet(made: &[Event], change: &Change) -> bool
+pub(crate) fn concerns_sheet(made: &[Event], change: &Change) -> bool
     ensures { IsTrue result → ConcernsSheet made.now change.now }
 {
     let many = wrong_events(&change.slip);
@@ -70,6 +70,15 @@ fn makes_other(singles: &[Repair], then: &Repair) -> bool
     true
 }
 
+/// Whether each line that a repair of a record concerns, and each number that stays wrong with it, is on the sheet, and not on a line that an earlier change
+/// added.
+pub fn is_of_sheet(made: &[Event], then: &Repair) -> bool
+    ensures lines { IsTrue result → ConcernsSheet made.now then.now.listed.change }
+    ensures numbers { IsTrue result → WrongOnSheet then.now }
+{
+    concerns_sheet(made, &then.listed.change) && wrong_on_sheet(then)
+}
+
 /// Whether two changes that cost `cost` are listed in addition to single repairs: the second concerns lines of the sheet, and so does each number that stays
 /// wrong; each of the single repairs costs more, and makes another record.
 pub(crate) fn is_told(singles: &[Repair], made: &[Event], then: &Repair, cost: u128) -> bool
@@ -78,10 +87,7 @@ pub(crate) fn is_told(singles: &[Repair], made: &[Event], then: &Repair, cost: u
     ensures cheaper { IsTrue result → CostsLess singles.now cost }
     ensures other { IsTrue result → MakesOther singles.now then.now }
 {
-    concerns_sheet(made, &then.listed.change)
-        && wrong_on_sheet(then)
-        && costs_less(singles, cost)
-        && makes_other(singles, then)
+    is_of_sheet(made, then) && costs_less(singles, cost) && makes_other(singles, then)
 }
 
 /// What the likeliest of some repairs costs; `None` if there is no repair.

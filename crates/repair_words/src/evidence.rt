@@ -2,7 +2,7 @@
 
 use decimal_text::push_number;
 use event_notes::SpelledWord;
-use game_sheets::WrongNumber;
+use game_sheets::{WrongNumber, due};
 use record_repairs::Remains;
 use sentence_parts::{Part, say};
 use std::alloc::AllocError;
@@ -41,8 +41,9 @@ fn push_wrong(text: &mut Vec<u8>, number: &WrongNumber) -> Result<(), AllocError
         WrongNumber::Sum {
             line,
             written,
+            sum,
             right,
-        } => push_on_line(text, *line, "sum ", *written, *right),
+        } => push_on_line(text, *line, "sum ", *written, due(*sum, *right)),
         WrongNumber::Total { .. } => Ok(()),
     }
 }
@@ -68,12 +69,10 @@ fn push_unlisted(text: &mut Vec<u8>, words: &[SpelledWord]) -> Result<(), AllocE
     text.extend_from_slice(b"\n")
 }
 
-/// Appends how many of some numbers are right, and how many there are.
-pub(crate) fn push_share(
-    text: &mut Vec<u8>,
-    remains: &Remains,
-    numbers: u128,
-) -> Result<(), AllocError> {
+/// Appends how many of `numbers` numbers are right, and how many there are, such as `90 of 90`.
+///
+/// It fails only if memory runs out.
+pub fn push_share(text: &mut Vec<u8>, remains: &Remains, numbers: u128) -> Result<(), AllocError> {
     let right = numbers.saturating_sub(remains.wrong.len() as u128);
     push_number(text, right)?;
     text.extend_from_slice(b" of ")?;

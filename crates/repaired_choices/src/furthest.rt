@@ -4,7 +4,7 @@ use crate::events::events_of;
 use game_rows::walk_and_correct;
 use lex_list::WordList;
 use ref_tiles::Rules;
-use sheet_alignments::many_choices;
+use sheet_alignments::many_with_own_racks;
 use sheet_comparisons::Sheets;
 use std::alloc::{AllocError, Global};
 
@@ -72,7 +72,7 @@ fn push_reach(first: &mut Vec<Reach>, reach: Reach) -> Result<(), AllocError> {
     Ok(())
 }
 
-/// The choices that go furthest.
+/// The choices that go furthest, of those that take each rack from the player's own sheet: the rules do not look at stated racks.
 ///
 /// It fails only if memory runs out.
 pub(crate) fn furthest(
@@ -82,7 +82,7 @@ pub(crate) fn furthest(
     sheets: &Sheets,
 ) -> Result<Vec<Reach>, AllocError> {
     let mut first = Vec::new(alloc);
-    for choice in 0..many_choices(sheets.pairs.as_slice()) {
+    for choice in 0..many_with_own_racks(sheets.pairs.as_slice()) {
         push_reach(&mut first, reach_of(alloc, rules, list, sheets, choice)?)?;
     }
     Ok(first)

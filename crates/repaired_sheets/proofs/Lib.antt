@@ -3,3 +3,4 @@ pub mod Lines
 pub mod Rounds
 pub mod Ends
 pub mod Names
+pub mod Rewriting

@@ -3,3 +3,5 @@ pub mod Replacing
 pub mod Texts
 pub mod Ends
 pub mod Names
+pub mod Running
+pub mod Sheets

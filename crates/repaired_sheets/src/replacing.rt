@@ -12,7 +12,7 @@ use record_changes::Slip;
 use std::alloc::AllocError;
 
 /// Appends the CR of a line, if it ends in one.
-fn push_return(out: &mut Vec<u8>, line: &[u8]) -> Result<(), AllocError>
+pub(crate) fn push_return(out: &mut Vec<u8>, line: &[u8]) -> Result<(), AllocError>
     ensures { OnOk result (out.new.items ≡ out.old.items ++ return_of line.now) }
 {
     if line.ends_with(b"\r") {

@@ -1,6 +1,6 @@
 -- The rows of a score sheet.
 use Rattle.std.specs.Borrow.{Bor}
-use Rattle.std.specs.Prelude.{◌≡◌, ℕ, ℤ, ◌+◌, Bool, true, false, List, [], length, slice_get, Option, Some, None, if◌then◌else◌}
+use Rattle.std.specs.Prelude.{◌≡◌, ℕ, ℤ, ◌+◌, ◌+ℤ◌, Bool, true, false, List, [], length, slice_get, Option, Some, None, if◌then◌else◌}
 use Rattle.std.specs.Ordering.{int_eq}
 use Rattle.ref_tiles.specs.declared.rulebook.Rules.{Rules}
 use Rattle.gcg_read.specs.declared.events.Event.{Event}
@@ -12,6 +12,7 @@ use Rattle.game_turns.specs.Tallies.{tally_at, withdraws}
 use Rattle.game_rows.specs.declared.numbers.Numbers.{Numbers}
 use Rattle.game_rows.specs.declared.refusals.Stop.{Stop}
 use Rattle.game_rows.specs.Numbers.{numbers_in}
+use Rattle.game_sheets.specs.WrongNumbers.{had_before, due, is_right_sum}
 use Rattle.event_notes.specs.declared.bests.TurnBest.{TurnBest}
 use Rattle.event_notes.specs.declared.unlisted.SpelledWord.{SpelledWord}
 use Rattle.event_notes.specs.Bests.{IsTurnBest}
@@ -23,6 +24,14 @@ use Rattle.score_sheets.specs.Unders.{known_under}
 -- what a number should be, if it is wrong
 abbrev pub should_be : (written right : ℤ) → Option ℤ
 should_be written right = if int_eq written right then None else Some right
+
+-- the right total of an event, if it and those before it are allowed
+abbrev pub known_if : (allowed : Bool) → (right : ℤ) → Option ℤ
+known_if allowed right = if allowed then Some right else None
+
+-- what the total of an event should be, if it is wrong
+abbrev pub total_should_be : (had : ℤ) → (written : Event) → (right : Option ℤ) → Option ℤ
+total_should_be had written right = if is_right_sum written.total (had +ℤ written.score) right then None else Some (due (had +ℤ written.score) right)
 
 -- the numbers of an event for which a walk has no row: those with which it is refused, if the walk stops at it, and otherwise its
 -- own
@@ -55,7 +64,8 @@ IsNotedAt rules list events place true unlisted =
 IsNotedAt rules list events place false unlisted = (AreAllowedTo rules list events (place + 1) → ⊥) × (unlisted ≡ [])
 
 -- A row is that of the event at a place, counted from 0, of the events as they are written; `right` are the same events with their right numbers.
--- It has what its numbers should be exactly if they are wrong. Its best play is that of the state before the event, by the right numbers of the
+-- It has what its numbers should be exactly if they are wrong: a total is if it is neither the player's last total and the score, as they are written,
+-- nor the right one, which is known if the event is allowed. Its best play is that of the state before the event, by the right numbers of the
 -- events before it, for a turn that gave its right score, and nothing if it is taken back; and it has what is on the squares of that play before the
 -- event.
 pub record IsSheetRowAt (rules : Rules) (list : List (List ℕ)) (written right : List Event) (place : ℕ) (row : SheetRow) : Type 0 where
@@ -64,7 +74,7 @@ pub record IsSheetRowAt (rules : Rules) (list : List (List ℕ)) (written right 
   pub stood : slice_get written place ≡ Some own
   pub stands : slice_get right place ≡ Some event
   pub score : row.score ≡ should_be own.score event.score
-  pub total : row.total ≡ should_be own.total event.total
+  pub total : row.total ≡ total_should_be (had_before written own.player place) own (known_if row.allowed event.total)
   pub best : IsBestAt rules list right place event (given_by (withdraws (slice_get written (place + 1))) event.score) row.best
   pub under : row.under.items ≡ known_under (tally_at rules right place).board row.best
   pub noted : IsNotedAt rules list right place row.allowed row.unlisted.items

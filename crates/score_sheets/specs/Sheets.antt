@@ -5,12 +5,13 @@ use Rattle.gcg_read.specs.declared.events.Event.{Event}
 use Rattle.gcg_read.specs.declared.events.Seat.TheVariants.{First, Second}
 use Rattle.gcg_read.specs.declared.records.Record.{Record}
 use Rattle.game_sheets.specs.LastTotals.{last_total}
+use Rattle.game_sheets.specs.Standings.{IsStanding}
 use Rattle.score_sheets.specs.declared.sheets.ScoreSheet.{ScoreSheet}
 use Rattle.score_sheets.specs.Boards.{ArePictures, IsShownAt}
 use Rattle.score_sheets.specs.Positions.{ArePositions}
 use Rattle.score_sheets.specs.Rows.{AreSheetRows}
 use Rattle.score_sheets.specs.Gains.{gains_to, IsGain}
-use Rattle.score_sheets.specs.Sums.{best_of, IsStanding}
+use Rattle.score_sheets.specs.Sums.{best_of}
 
 -- A score sheet of a record, by the same events with their right numbers: its players and its events, the last totals and who is ahead by them, a
 -- row for each event in order and how many points more the best plays of each player would have given, the boards after the events and what is

@@ -20,4 +20,4 @@ pub use pictures::Picture;
 pub use positions::{LaidPlay, PlayedTile, Position, positions_of};
 pub use rows::{SheetRow, rows_of};
 pub use sheets::{ScoreSheet, score_sheet};
-pub use sums::{Standing, gains_of, standing_of};
+pub use sums::gains_of;

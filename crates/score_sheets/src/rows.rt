@@ -1,14 +1,15 @@
 //! The rows of a score sheet.
-ghost use Rattle.std.specs.Prelude.{◌≡◌, ◌<◌, ℕ, List, Some, length, slice_get, IfOk, OnOk};
+ghost use Rattle.std.specs.Prelude.{◌≡◌, ◌<◌, ◌+ℤ◌, ℕ, List, Some, length, slice_get, IfOk, OnOk};
 ghost use Rattle.std.specs.Option.{option_copied};
 ghost use Rattle.ref_tiles.specs.declared.rulebook.Rules.{Rules};
+ghost use Rattle.gcg_read.specs.Numerals.{IsPoints};
 ghost use Rattle.gcg_read.specs.declared.events.Event.{Event};
 ghost use Rattle.lex_check.specs.Pairs.{list_in};
 ghost use Rattle.game_turns.specs.Tallies.{tally_at};
 ghost use Rattle.game_notes.specs.Following.{Follows};
 ghost use Rattle.game_rows.specs.Walks.{IsWalk};
 ghost use Rattle.score_sheets.specs.Unders.{known_under};
-ghost use Rattle.score_sheets.specs.Rows.{should_be, numbers_behind, HasNumbersAt, IsBeforeAt, IsBestAt, IsNotedAt, IsSheetRowAt, AreSheetRows};
+ghost use Rattle.score_sheets.specs.Rows.{should_be, known_if, total_should_be, numbers_behind, HasNumbersAt, IsBeforeAt, IsBestAt, IsNotedAt, IsSheetRowAt, AreSheetRows};
 
 use crate::boards::is_taken_back;
 use crate::gains::given_by;
@@ -16,6 +17,7 @@ use crate::unders::cells_under;
 use event_notes::{SpelledWord, TurnBest, best_of_turn, unlisted_of};
 use game_notes::Follow;
 use game_rows::{Numbers, Row, Stop, Walk};
+use game_sheets::{due, had_before, is_right_sum};
 use game_turns::{Machine, legal_play};
 use gcg_read::{Event, EventKind, Points};
 use lex_check::Checked;
@@ -28,8 +30,8 @@ use std::alloc::{AllocError, Global};
 pub struct SheetRow {
     /// What the score should be, if it is wrong.
     pub score: Option<Points>,
-    /// What the total should be, if it is wrong.
-    pub total: Option<Points>,
+    /// What the total should be, if it is wrong: neither the player's last total and the score, as they are written, nor the right one.
+    pub total: Option<i32>,
     /// What is said of the best play, if the rules allow the events before it with their right numbers.
     pub best: Option<TurnBest>,
     /// What is on the squares of the best play before the event, if there is one.
@@ -50,6 +52,33 @@ fn should_be(written: Points, right: Points) -> Option<Points>
         None
     } else {
         Some(right)
+    }
+}
+
+/// The right total of an event, if it and those before it are allowed.
+fn known_if(allowed: bool, right: Points) -> Option<i32>
+    ensures { result ≡ known_if allowed right }
+{
+    if allowed { Some(right.value()) } else { None }
+}
+
+/// The sum of what a player had and a score.
+fn sum_of(had: i32, score: Points) -> i32
+    requires { IsPoints had }
+    ensures { result ≡ had +ℤ score }
+{
+    had + score.value()
+}
+
+/// What the total of an event should be, if it is wrong.
+fn total_should_be(had: i32, event: &Event, right: Option<i32>) -> Option<i32>
+    requires { IsPoints had }
+    ensures { result ≡ total_should_be had event.now right }
+{
+    if is_right_sum(event.total, had, event.score, right) {
+        None
+    } else {
+        Some(due(sum_of(had, event.score), right))
     }
 }
 
@@ -191,9 +220,11 @@ fn row_at(
     let gave = given_by(taken_back, right.score);
     let there = best_at(alloc, rules, pair, walk, follow, place, event, gave)?;
     let noted = noted_at(alloc, pair.list(), walk, place)?;
+    let had = had_before(events, event.player, place);
+    let due = known_if(noted.allowed, right.total);
     Ok(SheetRow {
         score: should_be(event.score, right.score),
-        total: should_be(event.total, right.total),
+        total: total_should_be(had, event, due),
         best: there.best,
         under: there.under,
         allowed: noted.allowed,

@@ -1,14 +1,13 @@
-//! How many points more the best plays of a sheet would have given, and who is ahead.
+//! How many points more the best plays of a sheet would have given.
 ghost use Rattle.std.specs.Prelude.{◌≡◌, length, slice_get};
 ghost use Rattle.std.specs.Option.{option_copied};
-ghost use Rattle.gcg_read.specs.Numerals.{IsPoints};
 ghost use Rattle.score_sheets.specs.Gains.{known_gain, gain_of, gains_to, IsGain};
-ghost use Rattle.score_sheets.specs.Sums.{best_in, best_of, total_in, IsStanding};
+ghost use Rattle.score_sheets.specs.Sums.{best_in, best_of};
 
 use crate::gains::gain_in;
 use crate::rows::SheetRow;
 use event_notes::TurnBest;
-use gcg_read::{Event, Points, Seat, same_seat};
+use gcg_read::{Event, Seat, same_seat};
 
 /// The event at a place, if there is one.
 #[tactic(auto, using(game_turns::proofs::PlaceLaws::copied_get))]
@@ -70,38 +69,4 @@ pub fn gains_of(player: Seat, events: &[Event], rows: &[SheetRow]) -> Option<u64
         gains = sum;
     }
     Some(gains)
-}
-
-/// Who has the greater of two totals.
-#[derive(Clone, Copy, Debug, PartialEq, Eq)]
-pub enum Standing {
-    /// They are the same.
-    Even,
-    /// This player has more, by this number of points.
-    Ahead(Seat, i32),
-}
-
-/// A total, or 0 if none is written.
-fn total_in(total: &Option<Points>) -> i32
-    ensures total { result ≡ total_in total.now }
-    ensures in_range { IsPoints result }
-{
-    match total {
-        Some(total) => total.value(),
-        None => 0,
-    }
-}
-
-/// Who has the greater of two totals, and by how many points.
-pub fn standing_of(first: &Option<Points>, second: &Option<Points>) -> Standing
-    ensures { IsStanding first.now second.now result }
-{
-    let (first, second) = (total_in(first), total_in(second));
-    if first > second {
-        Standing::Ahead(Seat::First, first - second)
-    } else if second > first {
-        Standing::Ahead(Seat::Second, second - first)
-    } else {
-        Standing::Even
-    }
 }

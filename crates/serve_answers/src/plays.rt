@@ -1,23 +1,25 @@
 //! The best plays that a request asks for.
-ghost use Rattle.std.specs.Prelude.{◌≡◌, ◌≤◌, None, Some, IfOk, IfSome};
+ghost use Rattle.std.specs.Prelude.{◌≡◌, ◌≤◌, IfOk};
 ghost use Rattle.std.specs.Option.{option_copied};
 ghost use Rattle.lex_check.specs.Pairs.{list_in};
 ghost use Rattle.call_stages.specs.declared.verdicts.Verdict.TheVariants as verdict;
 ghost use Rattle.call_stages.specs.Reports.{bad_rack_line};
 ghost use Rattle.call_stages.specs.Telling.{IsTold};
+ghost use Rattle.asked_racks.specs.Racks.{bytes_named};
 ghost use Rattle.engine.specs.TopBefore.{given_rack};
 ghost use Rattle.game_answers.specs.Tops.{AreTopPlaysOf};
 ghost use Rattle.serve_answers.specs.Given.{FailsForMemoryAlone, read_of};
 ghost use Rattle.serve_answers.specs.Plays.{number_asked, ArePlaysBy};
 
 use crate::records::GivenRecord;
+use asked_racks::rack_in_capitals;
 use call_stages::{Decision, InputFault, RunFault};
 use engine::TurnPlays;
 use game_answers::{FoundPlays, top_plays};
 use game_report::MOST_PLAYS;
 use gcg_read::read_rack;
 use lex_check::Checked;
-use ref_tiles::Rules;
+use ref_tiles::{Counts, Rules};
 use std::alloc::{AllocError, Global};
 
 /// How many plays are given if no number is requested.
@@ -34,23 +36,17 @@ fn number_asked(number: Option<u32>) -> usize
     }
 }
 
-/// The question by the bytes of a rack, if they are given; `None` if they are not a rack.
-fn turn_plays(rack: Option<&str>, number: usize, line: Option<u32>) -> Option<TurnPlays>
-    requires { number ≤ 100 }
-    ensures rack { IfSome result (λ question. given_rack (option_copied rack.entry) ≡ Some question.rack) }
-    ensures number { IfSome result (λ question. question.number ≡ number) }
-    ensures line { IfSome result (λ question. question.before ≡ line) }
-    ensures none { result ≡ None → given_rack (option_copied rack.entry) ≡ None }
+/// The rack that is named, if one is; `None` if what is named is not a rack.
+fn named_rack(alloc: Global, rack: Option<&str>) -> Result<Option<Option<Counts>>, AllocError>
+    ensures { IfOk result (λ given. given ≡ given_rack (bytes_named (option_copied rack.entry))) }
 {
-    let rack = match rack {
-        None => None,
-        Some(rack) => Some(read_rack(rack.as_bytes())?),
+    let Some(tiles) = rack_in_capitals(alloc, rack)? else {
+        return Ok(Some(None));
     };
-    Some(TurnPlays {
-        rack,
-        number,
-        before: line,
-    })
+    match read_rack(&tiles) {
+        Some(rack) => Ok(Some(Some(rack))),
+        None => Ok(None),
+    }
 }
 
 /// The verdict that a rack is not one.
@@ -76,7 +72,7 @@ fn plays_by(
     top_plays(alloc, rules, pair, &mut input, question)
 }
 
-/// The best plays before a line of a record, by a rack or by that of the line: what `top --json` finds.
+/// The best plays before a line of a record, by a rack, whose letters may be lower case, or by that of the line: what `top --json` finds.
 #[tactic(auto, using(crate::proofs::PlayLaws::by_rack, crate::proofs::PlayLaws::by_none))]
 pub fn plays_in(
     alloc: Global,
@@ -87,11 +83,16 @@ pub fn plays_in(
     rack: Option<&str>,
     number: Option<u32>,
 ) -> Result<Result<FoundPlays, Decision>, RunFault>
-    ensures found { IfOk result (ArePlaysBy (number_asked number) line rules.now (list_in pair.now) (given_rack (option_copied rack.entry)) (read_of game.now)) }
+    ensures found { IfOk result (ArePlaysBy (number_asked number) line rules.now (list_in pair.now) (given_rack (bytes_named (option_copied rack.entry))) (read_of game.now)) }
     ensures memory { FailsForMemoryAlone result }
 {
-    match turn_plays(rack, number_asked(number), line) {
-        Some(question) => plays_by(alloc, rules, pair, game, &question),
-        None => Ok(Err(no_rack(alloc)?)),
-    }
+    let Some(rack) = named_rack(alloc, rack)? else {
+        return Ok(Err(no_rack(alloc)?));
+    };
+    let question = TurnPlays {
+        rack,
+        number: number_asked(number),
+        before: line,
+    };
+    plays_by(alloc, rules, pair, game, &question)
 }

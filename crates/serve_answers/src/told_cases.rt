@@ -8,9 +8,8 @@ use crate::games::case_in;
 use call_stages::RunFault;
 use game_case::Case;
 use lex_check::Checked;
-use record_repairs::Repair;
 use ref_tiles::Rules;
-use repair_answers::likely_in_case;
+use repair_answers::{Likely, likely_in_case};
 use std::alloc::{AllocError, Global};
 
 /// The case of a record, which `explain` and `page` are about.
@@ -19,7 +18,7 @@ pub struct ToldCase {
     /// The case.
     pub case: Case,
     /// The likely repair of its record, if it is requested and there is one.
-    pub likely: Option<Repair>,
+    pub likely: Option<Likely>,
 }
 
 /// The case with its likely repair, if that is requested.
@@ -31,7 +30,7 @@ fn told_of(
     asked: bool,
 ) -> Result<ToldCase, AllocError>
     ensures case { IfOk result (λ told. told.case ≡ case) }
-    ensures likely { IfOk result (λ told. IsLikelyAsked asked rules.now (list_in pair.now) case.read told.likely) }
+    ensures likely { IfOk result (λ told. IsLikelyAsked asked rules.now (list_in pair.now) case.text.items case.read told.likely) }
 {
     let mut case = case;
     let likely = if asked {

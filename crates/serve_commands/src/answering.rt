@@ -6,7 +6,7 @@ ghost use Rattle.serve_answers.specs.Replies.{IsReplyTo};
 
 use crate::words::{push_no_word, push_ruled};
 use answer_json::push_refusal;
-use audit_lines::{AuditAnswer, corrected_text, is_corrected};
+use audit_lines::{AuditAnswer, corrected_text, is_written};
 use call_stages::{Decision, RunFault, Verdict};
 use case_objects::case_text;
 use command_files::has_page;
@@ -17,7 +17,7 @@ use game_page::{Contents, Maker, push_page, shown_of};
 use known_bests::KnownBests;
 use lex_check::Checked;
 use page_pieces::PageText;
-use page_words::{Sentences, sentences_of};
+use page_words::sentences_of;
 use ref_tiles::Rules;
 use serve_answers::{Reply, Ruled, ToldCase, reply_to};
 use serve_requests::Request;
@@ -138,7 +138,7 @@ fn tell_audit(
     let mut object = Vec::new(alloc);
     push_audit_answer(alloc, &mut object, answer, unread)?;
     let exit = exit_of_audit(&answer.audit);
-    if !corrected || !is_corrected(&answer.audit) {
+    if !corrected || !is_written(answer) {
         return Ok(Response::object(exit, object));
     }
     let text = corrected_text(alloc, &answer.audit)?;
@@ -233,20 +233,28 @@ fn tell_page(alloc: Global, judges: &Judges<'_>, told: &ToldCase) -> Result<Resp
         rules: judges.rules,
         pair: judges.pair,
         case: &told.case,
-        likely: told.likely.as_ref(),
+        likely: told.likely.as_ref().and_then(|likely| likely.as_change()),
         maker: judges.maker,
         up: None,
     };
     let mut page = PageText::new(alloc);
     if let Some(shown) = shown_of(alloc, &contents)? {
         let explanation = shown.explanation.as_ref();
-        let Sentences { reason, likely } = sentences_of(
+        let said = sentences_of(
             alloc,
+            judges.rules,
+            judges.pair,
             &told.case,
             explanation,
-            contents.likely,
+            told.likely.as_ref(),
         )?;
-        push_page(&mut page, &shown, reason.as_slice(), likely.as_slice())?;
+        push_page(
+            &mut page,
+            &shown,
+            said.reason.as_slice(),
+            said.likely.as_slice(),
+            said.lead.as_slice(),
+        )?;
     }
     let text = Vec::from_slice(alloc, page.as_slice())?;
     Ok(Response::text(exit_of_case(&told.case, None), text))

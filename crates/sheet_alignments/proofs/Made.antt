@@ -1,5 +1,5 @@
 -- Each event of a merged record is an event of one of the sheets.
-use Rattle.std.proofs.Common.{◌≡◌, ◌⊎◌, inl, inr, ℕ, List, [], ◌∷◌, slice_get, Some, Option, None, refl, sym, subst, arith, rules}
+use Rattle.std.proofs.Common.{◌≡◌, ◌⊎◌, inl, inr, ℕ, List, [], ◌∷◌, length, slice_get, Some, Option, None, refl, sym, subst, arith, rules}
 use Rattle.std.specs.Prelude.{Bool, true, false, All, Contains}
 use Rattle.std.specs.Option.{option_or}
 use Rattle.std.proofs.lemmas.Option.{slice_get_within, get_or_from_slice_get}
@@ -13,7 +13,7 @@ use Rattle.sheet_alignments.specs.declared.pairs.Side.{Side}
 use Rattle.sheet_alignments.specs.declared.pairs.Side.TheVariants as side
 use Rattle.sheet_alignments.specs.declared.merging.NumbersOf.TheVariants as numbers
 use Rattle.sheet_alignments.specs.Laws.{IsLineOf, IsOfSheets}
-use Rattle.sheet_alignments.specs.Merging.{of_side, own_side, rack_of, taken, events_of, side_of, line_at, next_item, taken_of, merged_from, merged, with_rack}
+use Rattle.sheet_alignments.specs.Merging.{of_side, own_side, rack_of, taken, events_of, side_of, line_at, next_item, next_rack, keeper, taken_of, merged_from, merged, items_of, with_rack}
 
 there_at : (events : List Event) (k : ℕ) (e : Event) → slice_get events k ≡ Some e → Contains events e
 there_at events k e at = subst (Contains events) (get_or_from_slice_get events k e e at) (Contains-get_or events k e (slice_get_within events k e at))
@@ -83,14 +83,15 @@ events_made owner side.First first second None (Some b) in_first in_second = non
 events_made owner side.Second first second None (Some b) in_first in_second = one_all (IsOfSheets first second) b (inr (alone second first b (in_second b refl)))
 events_made owner which first second None None in_first in_second = none_all (IsOfSheets first second)
 
-made_from : (owner : Seat) (choice number : ℕ) (first second : List Event) (pairs : List Pair) → All (IsOfSheets first second) (merged_from owner numbers.Taken choice number first second pairs)
+made_from : (owner : Seat) (choice number rack : ℕ) (first second : List Event) (pairs : List Pair) → All (IsOfSheets first second) (merged_from owner numbers.Taken choice number rack first second pairs)
 unfolding merged_from
-made_from owner choice number first second [] = none_all (IsOfSheets first second)
-made_from owner choice number first second (p ∷ pairs) =
-    All-append (IsOfSheets first second) (taken_of owner numbers.Taken choice number first second p) (merged_from owner numbers.Taken choice (next_item number p) first second pairs)
-    (events_made owner (side_of choice number p (line_at first p.first) (line_at second p.second)) first second (line_at first p.first) (line_at second p.second)
+made_from owner choice number rack first second [] = none_all (IsOfSheets first second)
+made_from owner choice number rack first second (p ∷ pairs) =
+    All-append (IsOfSheets first second) (taken_of owner numbers.Taken choice number rack first second p)
+    (merged_from owner numbers.Taken choice (next_item number p) (next_rack rack p) first second pairs)
+    (events_made (keeper owner choice rack p) (side_of choice number p (line_at first p.first) (line_at second p.second)) first second (line_at first p.first) (line_at second p.second)
     (λ e. there_of first p.first e) (λ e. there_of second p.second e))
-    (made_from owner choice (next_item number p) first second pairs)
+    (made_from owner choice (next_item number p) (next_rack rack p) first second pairs)
 
 pub all_made : (owner : Seat) (choice : ℕ) (first second : List Event) (pairs : List Pair) → All (IsOfSheets first second) (merged owner numbers.Taken choice first second pairs)
-all_made owner choice first second pairs = made_from owner choice 0 first second pairs
+all_made owner choice first second pairs = made_from owner choice 0 (length (items_of pairs)) first second pairs

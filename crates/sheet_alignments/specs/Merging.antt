@@ -1,11 +1,13 @@
 -- A record made from two sheets.
 --
--- If the lines of a pair differ, they are an item, and a choice takes one of them, or leaves out a line that only one sheet has. A
--- choice is a number: the items are numbered from 0 in the order of the game, and the choice takes the second sheet's line of an
--- item if the binary digit of its number is 1. Only the first 12 items are varied.
+-- If the lines of a pair differ, they are an item, and a choice takes one of them, or leaves out a line that only one sheet has. If its lines
+-- are of one player and state other racks, the racks are an item too, and a choice takes one of them. A choice is a number: the items are
+-- numbered from 0, first the lines and then the racks, both in the order of the game. If the binary digit of an item's number is 1, the choice
+-- takes the second sheet's line, or the rack that is not of the player's own sheet. Only the first 12 items are varied.
 use Rattle.std.specs.Prelude.{ℕ, ◌+◌, ◌/◌, ◌%◌, ◌^◌, ◌==◌, ◌&&◌, nat_lt, min, not, Bool, true, false, List, [], ◌∷◌, ◌++◌, length, filter, slice_get, Option, Some, None, if◌then◌else◌}
+use Rattle.std.specs.List.{range_with_len}
 use Rattle.std.specs.Option.{option_or}
-use Rattle.gcg_read.specs.Players.{same_seat}
+use Rattle.gcg_read.specs.Players.{same_seat, other_seat}
 use Rattle.gcg_read.specs.declared.events.Event.{Event}
 use Rattle.gcg_read.specs.declared.events.EventKind.{EventKind}
 use Rattle.gcg_read.specs.declared.events.EventKind.TheVariants as kind
@@ -72,9 +74,13 @@ tells_tiles (Some e) = has_tiles e.kind where
 abbrev pub fuller_side : Option Event → Option Event → Side
 fuller_side a b = if not (tells_tiles a) && tells_tiles b then side.Second else side.First
 
+-- the digit of the item with a number is 1
+abbrev pub is_chosen : (choice number : ℕ) → Bool
+is_chosen choice number = nat_lt number 12 && choice / 2 ^ number % 2 == 1
+
 -- the side that a choice takes for the item with a number
 abbrev pub chosen_side : (choice number : ℕ) → Side
-chosen_side choice number = if nat_lt number 12 && choice / 2 ^ number % 2 == 1 then side.Second else side.First
+chosen_side choice number = if is_chosen choice number then side.Second else side.First
 
 abbrev pub side_of : (choice number : ℕ) → Pair → Option Event → Option Event → Side
 side_of choice number p a b = if p.agrees then fuller_side a b else chosen_side choice number
@@ -83,25 +89,50 @@ side_of choice number p a b = if p.agrees then fuller_side a b else chosen_side 
 abbrev pub next_item : (number : ℕ) → Pair → ℕ
 next_item number p = if p.agrees then number else number + 1
 
--- what is taken from a pair, if its item has this number
-abbrev pub taken_of : (owner : Seat) → NumbersOf → (choice number : ℕ) → (first second : List Event) → Pair → List Event
-taken_of owner whose choice number first second p =
-    events_of owner whose (side_of choice number p (line_at first p.first) (line_at second p.second)) (line_at first p.first) (line_at second p.second)
+-- the number of the next racks after a pair
+abbrev pub next_rack : (rack : ℕ) → Pair → ℕ
+next_rack rack p = if p.other_racks then rack + 1 else rack
+
+-- the player whose sheet the first one counts as for the rack of a pair: the other one, if the choice takes the rack that is not of the player's own
+-- sheet
+abbrev pub keeper : (owner : Seat) → (choice rack : ℕ) → Pair → Seat
+keeper owner choice rack p = if p.other_racks && is_chosen choice rack then other_seat owner else owner
+
+-- what is taken from a pair, if its lines and its racks have these numbers as items
+abbrev pub taken_of : (owner : Seat) → NumbersOf → (choice number rack : ℕ) → (first second : List Event) → Pair → List Event
+taken_of owner whose choice number rack first second p =
+    events_of (keeper owner choice rack p) whose (side_of choice number p (line_at first p.first) (line_at second p.second)) (line_at first p.first) (line_at second p.second)
 
 -- the events of some pairs, with their items numbered from here
-unfoldable pub merged_from : (owner : Seat) → NumbersOf → (choice number : ℕ) → (first second : List Event) → List Pair → List Event
-merged_from owner whose choice number first second [] = []
-merged_from owner whose choice number first second (p ∷ pairs) =
-    taken_of owner whose choice number first second p ++ merged_from owner whose choice (next_item number p) first second pairs
-
--- The record that a choice makes from two sheets.
-abbrev pub merged : (owner : Seat) → NumbersOf → (choice : ℕ) → (first second : List Event) → List Pair → List Event
-merged owner whose choice first second pairs = merged_from owner whose choice 0 first second pairs
+unfoldable pub merged_from : (owner : Seat) → NumbersOf → (choice number rack : ℕ) → (first second : List Event) → List Pair → List Event
+merged_from owner whose choice number rack first second [] = []
+merged_from owner whose choice number rack first second (p ∷ pairs) =
+    taken_of owner whose choice number rack first second p ++ merged_from owner whose choice (next_item number p) (next_rack rack p) first second pairs
 
 -- the pairs that differ
 abbrev pub items_of : List Pair → List Pair
 items_of pairs = filter (λ (p : Pair). not p.agrees) pairs
 
--- the number of choices: two for each of the first 12 items
+-- the pairs with other racks
+abbrev pub rack_items : List Pair → List Pair
+rack_items pairs = filter (λ (p : Pair). p.other_racks) pairs
+
+-- The record that a choice makes from two sheets.
+abbrev pub merged : (owner : Seat) → NumbersOf → (choice : ℕ) → (first second : List Event) → List Pair → List Event
+merged owner whose choice first second pairs = merged_from owner whose choice 0 (length (items_of pairs)) first second pairs
+
+-- how many items are varied
+abbrev pub many_varied : List Pair → ℕ
+many_varied pairs = min 12 (length (items_of pairs) + length (rack_items pairs))
+
+-- the number of choices: two for each item that is varied
 abbrev pub many_choices : List Pair → ℕ
-many_choices pairs = 2 ^ min 12 (length (items_of pairs))
+many_choices pairs = 2 ^ many_varied pairs
+
+-- the number of the choices that take each rack from the player's own sheet: they come first
+abbrev pub many_with_own_racks : List Pair → ℕ
+many_with_own_racks pairs = 2 ^ min 12 (length (items_of pairs))
+
+-- how many racks a choice takes that are not of the player's own sheet
+abbrev pub many_other_racks : (choice : ℕ) → List Pair → ℕ
+many_other_racks choice pairs = length (filter (is_chosen choice) (range_with_len (length (items_of pairs)) (length (rack_items pairs))))

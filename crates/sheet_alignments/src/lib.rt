@@ -6,16 +6,24 @@
 
 mod agreeing;
 mod aligning;
+mod choices;
 mod copying;
 mod costs;
 mod fronts;
 mod laws;
 mod merging;
 mod pairs;
+mod racks;
+mod seats;
 mod tables;
 
 pub use agreeing::agree;
 pub use aligning::align;
+pub use choices::{
+    MOST_ITEMS, chosen_side, is_chosen, many_choices, many_items, many_other_racks, many_racks,
+    many_varied, many_with_own_racks,
+};
 pub use laws::{law_of_itself, law_of_merging};
-pub use merging::{MOST_ITEMS, NumbersOf, chosen_side, many_choices, many_items, merge, own_side};
+pub use merging::{NumbersOf, merge, own_side};
 pub use pairs::{Pair, Side};
+pub use seats::in_other_seats;

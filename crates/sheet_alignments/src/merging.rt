@@ -1,17 +1,15 @@
 //! Records made from two sheets.
-ghost use Rattle.std.specs.Prelude.{◌≡◌, ◌++◌, ◌∷◌, [], ◌<◌, ◌≤◌, true, false, List, length, if◌then◌else◌, IfOk, OnOk};
+ghost use Rattle.std.specs.Prelude.{◌≡◌, ◌++◌, ◌∷◌, [], true, false, if◌then◌else◌, IfOk, OnOk};
 ghost use Rattle.std.specs.Option.{option_or, option_copied};
-ghost use Rattle.sheet_alignments.specs.Merging.{line_at, own_side, of_side, rack_of, with_numbers_of, numbered, taken, events_of, tells_tiles, fuller_side, chosen_side, side_of, next_item, taken_of, merged, items_of, many_choices};
+ghost use Rattle.sheet_alignments.specs.Merging.{line_at, own_side, of_side, rack_of, with_numbers_of, numbered, taken, events_of, tells_tiles, fuller_side, side_of, taken_of, merged};
 
 use crate::agreeing::has_amount;
+use crate::choices::{chosen_side, keeper, many_items, next_item, next_rack};
 use crate::copying::copy_with_rack;
 use crate::pairs::{Pair, Side};
 use gcg_read::{Event, EventKind, Events, Seat, same_seat};
 use ref_tiles::Counts;
 use std::alloc::{AllocError, Global};
-
-/// The maximum number of items that are varied.
-pub const MOST_ITEMS: usize = 12;
 
 /// Which numbers the events taken from two sheets have.
 #[derive(Clone, Copy, Debug, PartialEq, Eq)]
@@ -131,17 +129,6 @@ fn fuller_side(first: Option<&Event>, second: Option<&Event>) -> Side
     }
 }
 
-/// Which side a choice takes for the item with a number.
-pub fn chosen_side(choice: usize, number: usize) -> Side
-    ensures { result ≡ chosen_side choice number }
-{
-    if number < MOST_ITEMS && (choice >> number) % 2 == 1 {
-        Side::Second
-    } else {
-        Side::First
-    }
-}
-
 /// Which side is taken for a pair.
 fn side_of(
     choice: usize,
@@ -201,31 +188,25 @@ fn is_first(side: Side) -> bool
     }
 }
 
-/// The number of the item after a pair.
-fn next_item(number: usize, pair: &Pair) -> usize
-    requires { number < 18446744073709551615 }
-    ensures { result ≡ next_item number pair.now }
-{
-    if pair.agrees { number } else { number + 1 }
-}
-
-/// Appends what is taken from a pair, if its item has this number.
+/// Appends what is taken from a pair, if its lines and its racks have these numbers as items.
 fn push_pair(
     events: &mut Events,
     owner: Seat,
     whose: NumbersOf,
     choice: usize,
     number: usize,
+    rack: usize,
     first: &[Event],
     second: &[Event],
     pair: &Pair,
 ) -> Result<(), AllocError>
-    ensures { OnOk result (events.new ≡ events.old ++ taken_of owner whose choice number first.now second.now pair.now) }
+    ensures { OnOk result (events.new ≡ events.old ++ taken_of owner whose choice number rack first.now second.now pair.now) }
 {
     let line = line_at(first, pair.first);
     let other = line_at(second, pair.second);
     let side = side_of(choice, number, pair, line, other);
-    push_events(events, owner, whose, side, line, other)
+    let seat = keeper(owner, choice, rack, pair);
+    push_events(events, seat, whose, side, line, other)
 }
 
 /// The record that a choice makes from two sheets, if the first one belongs to `owner`.
@@ -244,6 +225,8 @@ pub fn merge(
 {
     let mut events = Events::new(alloc);
     let mut number = 0;
+    let items = many_items(pairs);
+    let mut rack = items;
     for pair in pairs {
         push_pair(
             &mut events,
@@ -251,30 +234,13 @@ pub fn merge(
             whose,
             choice,
             number,
+            rack,
             first,
             second,
             pair,
         )?;
         number = next_item(number, pair);
+        rack = next_rack(rack, pair);
     }
     Ok(events)
-}
-
-/// The number of pairs that differ.
-pub fn many_items(pairs: &[Pair]) -> usize
-    ensures { result ≡ length (items_of pairs.now) }
-{
-    let mut many = 0;
-    for pair in pairs {
-        many = next_item(many, pair);
-    }
-    many
-}
-
-/// The number of choices.
-pub fn many_choices(pairs: &[Pair]) -> usize
-    ensures { result ≡ many_choices pairs.now }
-{
-    let items = many_items(pairs).min(MOST_ITEMS);
-    1 << items
 }

@@ -6,10 +6,10 @@ use Rattle.call_stages.specs.declared.verdicts.Verdict.{Verdict}
 use Rattle.call_stages.specs.declared.verdicts.Verdict.TheVariants as verdict
 use Rattle.call_stages.specs.Reading.{ReadsNoMore, ReadsNext, ReadsRecord}
 use Rattle.call_stages.specs.Telling.{IsTold}
-use Rattle.game_case.specs.declared.audits.Audit.{Audit}
-use Rattle.game_case.specs.Auditing.{IsAuditOf}
+use Rattle.audit_lines.specs.declared.answers.AuditAnswer.{AuditAnswer}
+use Rattle.audit_lines.specs.Answers.{IsAuditAnswerOf}
 
 -- the audit of the record is reported, or the record is bad
 abbrev pub IsAuditTold : {T : Type 0} → Rules → (list : List (List ℕ)) → Result T Decision → (texts : List (List ℕ)) → Verdict → List ℕ → Type 0
-IsAuditTold rules list (Ok told) texts v report = ReadsNext (λ text. ReadsNoMore (λ w said. (a : Audit) × IsAuditOf rules list text (Ok a) × IsTold verdict.Done [] w said)) texts v report
+IsAuditTold rules list (Ok told) texts v report = ReadsNext (λ text. ReadsNoMore (λ w said. (a : AuditAnswer) × IsAuditAnswerOf rules list text (Ok a) × IsTold verdict.Done [] w said)) texts v report
 IsAuditTold rules list (Err d) texts v report = ReadsRecord (λ r rest w said. ⊥) texts v report

@@ -11,7 +11,7 @@ use ref_tiles::Rules;
 use repaired_choices::{RepairedChoices, repaired_choices};
 use repaired_sheets::can_be_written;
 use sheet_alignments::many_items;
-use sheet_comparisons::{Best, Comparison, Find, Sheets, compare};
+use sheet_comparisons::{Best, Comparison, Find, Sheets, compare, have_other_racks, in_seats_of};
 use std::alloc::{AllocError, Global};
 
 /// What `compare` finds of two sheets.
@@ -84,7 +84,12 @@ fn is_named(sheets: &Sheets, answer: &Answer) -> bool {
 
 /// Whether two sheets agree in everything, and every number of both is right.
 fn agree(sheets: &Sheets, best: &Best) -> bool {
-    many_items(sheets.pairs.as_slice()) == 0 && best.cost == 3 * best.unlisted as u128
+    many_items(sheets.pairs.as_slice()) == 0
+        && !sheets
+            .pairs
+            .iter()
+            .any(|pair| have_other_racks(sheets, pair))
+        && best.cost == 3 * best.unlisted as u128
 }
 
 /// How the program ends.
@@ -179,6 +184,7 @@ pub(crate) fn compare_records(
     encoding: Encoding,
     kept: bool,
 ) -> Result<Compared, AllocError> {
+    let second = in_seats_of(alloc, &first.players, second)?;
     let sheets = Sheets::new(alloc, first, second)?;
     let answer = answer_of(alloc, rules, list, &sheets)?;
     let told = text_of(alloc, &sheets, &answer, encoding, kept)?;

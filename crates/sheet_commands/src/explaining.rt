@@ -3,6 +3,7 @@ ghost use Rattle.lex_check.specs.Pairs.{list_in};
 ghost use Rattle.game_case.specs.Explaining.{HasItsWalk};
 
 use crate::encodings::in_utf8;
+use audit_lines::{audit_of_wrong, push_last_line};
 use call_stages::GameFault;
 use command_files::{NO_GAME, has_no_event, write};
 use exit_statuses::{Exit, Trouble, exit_of_case};
@@ -13,12 +14,13 @@ use lex_check::Checked;
 use name_texts::Encoding;
 use ref_tiles::Rules;
 use repair_answers::{amount_repair, likely_in};
-use repair_words::{push_amount, push_likely};
+use repair_lines::push_likely;
+use repair_words::push_amount;
 use std::alloc::{AllocError, Global};
 use std::rt::Runtime;
 
 /// Explains the verdict on a record, or one of its lines, by the rules, the word list and the lexicon: writes it to standard output. After the verdict on an
-/// illegal record comes its likely repair, if there is one.
+/// illegal record comes its likely repair, if there is one, or if a number is wrong, who is ahead by the right numbers.
 pub fn tell_case<'a, R: Runtime + AllocGlobal>(
     rt: &R,
     rules: &Rules,
@@ -40,20 +42,55 @@ pub fn tell_case<'a, R: Runtime + AllocGlobal>(
 }
 
 /// Appends the likely repair of the record of an entry, if the record is illegal and has one; or else a bonus or a penalty that would explain its
-/// numbers, if there is one.
+/// numbers, if there is one. Says whether there is a likely repair.
 fn push_likely_in(
     alloc: Global,
     told: &mut Vec<u8>,
     rules: &Rules,
     pair: &Checked<'_>,
     entry: &mut Entry,
-) -> Result<(), AllocError> {
-    let likely = likely_in(alloc, rules, pair, entry)?;
+    text: &[u8],
+) -> Result<bool, AllocError> {
+    let likely = likely_in(alloc, rules, pair, entry, text)?;
     if likely.is_some() || !has_wrong_total(entry) {
-        return push_likely(told, &entry.record, likely.as_ref());
+        push_likely(told, &entry.record, likely.as_ref())?;
+        return Ok(likely.is_some());
     }
     let amount = amount_repair(alloc, rules, pair, &mut entry.record)?;
-    push_amount(told, &entry.record, amount.as_ref())
+    push_amount(told, &entry.record, amount.as_ref())?;
+    Ok(false)
+}
+
+/// Appends who is ahead by the right numbers of a case, as `audit` says it, if a number of its sheet is wrong.
+fn push_lead(
+    alloc: Global,
+    told: &mut Vec<u8>,
+    rules: &Rules,
+    pair: &Checked<'_>,
+    case: &Case,
+) -> Result<(), AllocError> {
+    match audit_of_wrong(alloc, rules, pair, case)? {
+        Some(audit) => push_last_line(told, &audit),
+        None => Ok(()),
+    }
+}
+
+/// Appends what is said of a record as a whole after its explanation: its likely repair, or if it has none, who is ahead by the right numbers.
+fn push_end(
+    alloc: Global,
+    told: &mut Vec<u8>,
+    rules: &Rules,
+    pair: &Checked<'_>,
+    case: &mut Case,
+) -> Result<(), AllocError> {
+    let Ok(entry) = &mut case.read else {
+        return Ok(());
+    };
+    let text = case.text.as_slice();
+    if push_likely_in(alloc, told, rules, pair, entry, text)? {
+        return Ok(());
+    }
+    push_lead(alloc, told, rules, pair, case)
 }
 
 /// Whether the first fault of a record is a wrong total.
@@ -79,8 +116,8 @@ fn text_of(
 {
     let mut told = Vec::new(alloc);
     push_explanation(alloc, &mut told, rules, pair.list(), case, line)?;
-    if let (None, Ok(entry)) = (line, &mut case.read) {
-        push_likely_in(alloc, &mut told, rules, pair, entry)?;
+    if line.is_none() {
+        push_end(alloc, &mut told, rules, pair, case)?;
     }
     in_utf8(alloc, told, Encoding::of(case.text.as_slice()))
 }

@@ -12,9 +12,9 @@ use lex_check::Checked;
 use name_texts::Encoding;
 use record_repairs::Repair;
 use ref_tiles::Rules;
-use repair_answers::{Choice, Faulty, RepairAnswer, answer_repairs, choice_of};
+use repair_answers::{Choice, Faulty, RepairAnswer, SheetRepair, answer_repairs, choice_of};
 use repair_lines::{push_choice, push_repairs};
-use repaired_sheets::{can_be_written, repaired_text};
+use repaired_sheets::{can_be_without, can_be_written, repaired_text, sheet_without};
 use std::alloc::{AllocError, Global};
 use std::rt::Runtime;
 
@@ -81,6 +81,24 @@ fn sheet_with(alloc: Global, case: &Case, repair: &Repair) -> Result<Option<Vec<
     Ok(Some(text))
 }
 
+/// The text of the sheet of a case without a slip of the whole sheet; `None` if it cannot be written.
+fn sheet_of(
+    alloc: Global,
+    case: &Case,
+    repair: &SheetRepair,
+) -> Result<Option<Vec<u8>>, AllocError> {
+    let Ok(entry) = &case.read else {
+        return Ok(None);
+    };
+    let players = &entry.record.players;
+    let right = repair.right.as_slice();
+    if !can_be_without(players, &repair.slip, right) {
+        return Ok(None);
+    }
+    let text = sheet_without(alloc, case.text.as_slice(), players, &repair.slip, right)?;
+    Ok(Some(text))
+}
+
 /// The text of the sheet of a case with these scores and totals.
 fn sheet_with_numbers(
     alloc: Global,
@@ -108,6 +126,7 @@ fn chosen_sheet(
 ) -> Result<Option<Vec<u8>>, AllocError> {
     match (choice_of(faulty), &faulty.alone) {
         (Choice::Clear(repair), _) => sheet_with(alloc, case, repair),
+        (Choice::Sheet(repair), _) => sheet_of(alloc, case, repair),
         (Choice::Numbers, Some(alone)) => sheet_with_numbers(alloc, case, alone.right.as_slice()),
         _ => Ok(None),
     }

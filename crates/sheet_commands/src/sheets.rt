@@ -15,6 +15,7 @@ use crate::explaining::tell_case;
 use crate::paging::write_page;
 use crate::repairing::tell_repairs;
 use annotations::SheetToAnnotate;
+use audit_lines::answer_audit;
 use call_stages::{Question, RunFault, Verdict, ask};
 use command_files::{
     Digests, GivenFiles, RulesFile, SheetFile, Told, UsedOutput, Words, advise_bad_record,
@@ -24,7 +25,7 @@ use command_files::{
 use command_line::{CaseTask, GameFiles, PROGRAM, SheetTask};
 use devices::{FromRead, Input};
 use exit_statuses::{Exit, Trouble};
-use game_case::{Case, audit_sheet, open_case};
+use game_case::{Case, open_case};
 use game_page::{Contents, Maker};
 use repair_answers::likely_in_case;
 use std::alloc::{AllocError, Global};
@@ -43,8 +44,8 @@ fn audit<'a, R: Runtime + AllocGlobal, F: Read + Drop, S: Read + Drop>(
     ensures { Gives outcomes (game_source (⟦<SheetFile<S> as Input>⟧.device game.old) (⟦<SheetFile<S> as Input>⟧.device game.new) ∷ [])
         (IsAuditTold given.now.rules.now (list_in given.now.pair.now)) result }
 {
-    match audit_sheet(rt.alloc(), given.rules, given.pair, game) {
-        Ok(Ok(audit)) => Ok(Ok(tell_audit(rt, &audit, out))),
+    match answer_audit(rt.alloc(), given.rules, given.pair, game) {
+        Ok(Ok(answer)) => Ok(Ok(tell_audit(rt, &answer, out))),
         Ok(Err(decision)) => Ok(Err(decision)),
         Err(fault) => Err(fault),
     }
@@ -82,11 +83,11 @@ fn tell_page<'a, R: Runtime + AllocGlobal, F: Read + Drop, S: Read + Drop>(
         rules: given.rules,
         pair: given.pair,
         case,
-        likely: likely.as_ref(),
+        likely: likely.as_ref().and_then(|likely| likely.as_change()),
         up: None,
         maker: &maker,
     };
-    write_page(rt, &contents, out)
+    write_page(rt, &contents, likely.as_ref(), out)
 }
 
 /// Writes the sheet of a case with notes, each with at most `number` best plays.

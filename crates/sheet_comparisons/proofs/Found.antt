@@ -8,6 +8,7 @@ use Rattle.gcg_read.specs.declared.events.Event.{Event}
 use Rattle.game_sheets.specs.Laws.{OneCorrection}
 use Rattle.game_deal.specs.Verdicts.{IsGame, IsUnsettled}
 use Rattle.sheet_alignments.specs.declared.merging.NumbersOf.TheVariants.{Taken}
+use Rattle.sheet_alignments.specs.Merging.{many_other_racks}
 use Rattle.sheet_comparisons.specs.declared.sheets.Sheets.{Sheets}
 use Rattle.sheet_comparisons.specs.declared.best.Best.{Best}
 use Rattle.sheet_comparisons.specs.declared.finds.Find.{Find}
@@ -86,6 +87,25 @@ one_behind one rules list s end f right cost is fits costs behind =
     (λ other of_other.
     inr (inr (told_behind f.best f.rivals.items end (cost_of rules list s end other)
     (subst (λ (r : List Event). IsBehind f.best (cost_of rules list s end r)) (one_right one rules list (choice_events s Taken end) right other fits of_other) more))))
+
+-- ---- the racks that are not of the players' own sheets cost more than the best
+
+dearer : (o : Option Best) (racks cost : ℕ) → IsBehind o racks → racks ≤ cost → IsBehind o cost
+dearer None racks cost behind less = absurd behind
+dearer (Some b) racks cost behind less = omega (arith, behind, less)
+
+racks_cost : (rules : Rules) (list : List (List ℕ)) (s : Sheets) (choice : ℕ) (right : List Event) → many_other_racks choice s.pairs.items ≤ cost_of rules list s choice right
+unfolding cost_of
+racks_cost rules list s choice right = omega arith
+
+pub dear_racks : (rules : Rules) (list : List (List ℕ)) (s : Sheets) (end : ℕ) (f : Find) (racks : ℕ) → IsFoundTo rules list s end f → racks ≡ many_other_racks end s.pairs.items → IsBehind f.best racks
+    → IsFoundTo rules list s (end + 1) f
+dear_racks rules list s end f racks is many behind =
+    let more : IsBehind f.best (many_other_racks end s.pairs.items) = subst (IsBehind f.best) many behind in
+    as_before rules list s end f is
+    (λ right fits.
+    inr (inr (told_behind f.best f.rivals.items end (cost_of rules list s end right)
+    (dearer f.best (many_other_racks end s.pairs.items) (cost_of rules list s end right) more (racks_cost rules list s end right)))))
 
 -- ---- no deal fits
 

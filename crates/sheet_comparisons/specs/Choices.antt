@@ -1,5 +1,5 @@
 -- The game that a choice of the lines of two sheets makes, and its cost.
-use Rattle.std.specs.Prelude.{ℕ, ◌+◌, ◌-◌, ◌*◌, List, length}
+use Rattle.std.specs.Prelude.{ℕ, ◌+◌, ◌-◌, ◌*◌, List, length, None}
 use Rattle.ref_tiles.specs.declared.rulebook.Rules.{Rules}
 use Rattle.gcg_read.specs.declared.events.Event.{Event}
 use Rattle.game_sheets.specs.Corrections.{IsCorrection, HavePoints}
@@ -10,7 +10,7 @@ use Rattle.sheet_alignments.specs.declared.pairs.Side.{Side}
 use Rattle.sheet_alignments.specs.declared.pairs.Side.TheVariants.{First, Second}
 use Rattle.sheet_alignments.specs.declared.merging.NumbersOf.{NumbersOf}
 use Rattle.sheet_alignments.specs.declared.merging.NumbersOf.TheVariants.{Taken, Sheet}
-use Rattle.sheet_alignments.specs.Merging.{merged}
+use Rattle.sheet_alignments.specs.Merging.{merged, many_other_racks}
 use Rattle.sheet_comparisons.specs.declared.sheets.Sheets.{Sheets}
 
 -- the events of a choice
@@ -27,17 +27,20 @@ pub record MakesGame (rules : Rules) (list : List (List ℕ)) (s : Sheets) (choi
   pub is : IsRight rules list (choice_events s Taken choice) right
   pub game : IsGame rules list right
 
--- How many numbers of a sheet are wrong with a choice: scores that are not those of the rules, and totals that are not the player's last one and the score.
+-- How many numbers of a sheet are wrong with a choice: scores that are not those of the rules, and totals that are neither the player's last one and
+-- the score nor those of the rules.
 abbrev pub wrong_on : Sheets → (which : Side) → (choice : ℕ) → (right : List Event) → ℕ
-wrong_on s which choice right = length (wrong_lines (choice_events s (Sheet which) choice) right)
+wrong_on s which choice right = length (wrong_lines None (choice_events s (Sheet which) choice) right)
 
 abbrev pub wrong_on_both : Sheets → (choice : ℕ) → (right : List Event) → ℕ
 wrong_on_both s choice right = wrong_on s First choice right + wrong_on s Second choice right
 
--- what it costs: 5 for each wrong number, 3 for each play that stands with a word that is not in the list, 1 for each line that is left out
-abbrev pub costs : (wrong unlisted left_out : ℕ) → ℕ
-costs wrong unlisted left_out = 5 * wrong + 3 * unlisted + left_out
+-- what it costs: 5 for each wrong number, 3 for each play that stands with a word that is not in the list, 1 for each line that is left out, and 1 for
+-- each rack that is not of the player's own sheet
+abbrev pub costs : (wrong unlisted left_out racks : ℕ) → ℕ
+costs wrong unlisted left_out racks = 5 * wrong + 3 * unlisted + left_out + racks
 
 -- What a choice costs. The less it costs, the likelier it is.
 unfoldable pub cost_of : Rules → (list : List (List ℕ)) → Sheets → (choice : ℕ) → (right : List Event) → ℕ
-cost_of rules list s choice right = costs (wrong_on_both s choice right) (unlisted_plays rules list right) (length s.pairs.items - length right)
+cost_of rules list s choice right =
+    costs (wrong_on_both s choice right) (unlisted_plays rules list right) (length s.pairs.items - length right) (many_other_racks choice s.pairs.items)

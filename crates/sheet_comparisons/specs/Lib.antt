@@ -6,3 +6,5 @@ pub mod Finds
 pub mod Trials
 pub mod Comparisons
 pub mod Laws
+pub mod Seats
+pub mod Results

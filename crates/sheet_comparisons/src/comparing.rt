@@ -11,7 +11,7 @@ use crate::sheets::Sheets;
 use crate::trials::{Trial, what_comes_of};
 use lex_list::WordList;
 use ref_tiles::Rules;
-use sheet_alignments::{MOST_ITEMS, NumbersOf, many_choices, many_items};
+use sheet_alignments::{NumbersOf, many_choices, many_varied, many_with_own_racks};
 use std::alloc::{AllocError, Global};
 
 /// A choice that makes no game, and where its correction stops.
@@ -28,13 +28,14 @@ pub struct Stop {
 pub struct Comparison {
     /// The best of all choices.
     pub find: Find,
-    /// The result of the best choice with the other line of an item, for each item that is varied; none if no choice is known to make a game.
+    /// The result of the best choice with the other line or the other rack of an item, for each item that is varied; none if no choice is known to
+    /// make a game.
     pub flips: Vec<Trial>,
     /// If no choice is known to make a game, the furthest stop of the choices that the rules refuse.
     pub furthest: Option<Stop>,
 }
 
-/// A choice with the other line of the item with a number.
+/// A choice with the other line, or the other rack, of the item with a number.
 fn flipped(choice: usize, number: usize) -> usize
     requires { number < 12 }
     ensures { result ≡ flipped choice number }
@@ -58,7 +59,7 @@ fn find_best(
     Ok(found)
 }
 
-/// The results of a choice with the other line of each item.
+/// The results of a choice with the other line or the other rack of each item.
 fn flips_of(
     alloc: Global,
     rules: &Rules,
@@ -69,7 +70,7 @@ fn flips_of(
     ensures { IfOk result (λ flips. AreFlips rules.now list.now sheets.now choice flips.items) }
 {
     let mut flips = Vec::new(alloc);
-    for number in 0..many_items(sheets.pairs.as_slice()).min(MOST_ITEMS) {
+    for number in 0..many_varied(sheets.pairs.as_slice()) {
         let flip = what_comes_of(alloc, rules, list, sheets, flipped(choice, number))?;
         flips.push(flip)?;
     }
@@ -126,7 +127,7 @@ fn further(first: Option<Stop>, second: Option<Stop>) -> Option<Stop>
     }
 }
 
-/// The furthest stop of the choices that the rules refuse.
+/// The furthest stop of the choices that the rules refuse and that take each rack from the player's own sheet: the rules do not look at stated racks.
 fn furthest(
     alloc: Global,
     rules: &Rules,
@@ -136,7 +137,7 @@ fn furthest(
     ensures { IfOk result (IsStop rules.now list.now sheets.now) }
 {
     let mut found = None;
-    for choice in 0..many_choices(sheets.pairs.as_slice()) {
+    for choice in 0..many_with_own_racks(sheets.pairs.as_slice()) {
         let stop = stop_of(alloc, rules, list, sheets, choice)?;
         found = further(found, stop);
     }
@@ -159,7 +160,7 @@ fn furthest_by(
     furthest(alloc, rules, list, sheets)
 }
 
-/// Compares two sheets of one game: tries each choice of their lines.
+/// Compares two sheets of one game: tries each choice of their lines and racks.
 ///
 /// It fails only if memory runs out.
 pub fn compare(

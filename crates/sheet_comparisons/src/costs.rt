@@ -1,17 +1,17 @@
 //! What is wrong on two sheets with a choice.
-ghost use Rattle.std.specs.Prelude.{◌≡◌, ◌+◌, ◌+ℤ◌, ◌<◌, ◌≤◌, ℕ, List, length, min, if◌then◌else◌, IfOk};
+ghost use Rattle.std.specs.Prelude.{◌≡◌, ◌+◌, ◌+ℤ◌, ◌<◌, ◌≤◌, ℕ, List, length, min, if◌then◌else◌, Some, None, IfOk};
 ghost use Rattle.std.specs.Ordering.{int_eq};
 ghost use Rattle.gcg_read.specs.Numerals.{IsPoints};
 ghost use Rattle.ref_tiles.specs.declared.rulebook.Rules.{Rules};
 ghost use Rattle.game_case.specs.Archiving.{unlisted_plays};
-ghost use Rattle.game_sheets.specs.WrongNumbers.{wrong_at, wrong_lines};
+ghost use Rattle.game_sheets.specs.WrongNumbers.{is_right_sum, wrong_at, wrong_lines};
 ghost use Rattle.sheet_comparisons.specs.Choices.{wrong_on, costs, cost_of};
 
 use crate::corrections::Corrected;
 use crate::sheets::Sheets;
-use game_sheets::had_before;
+use game_sheets::{had_before, is_right_sum};
 use gcg_read::Event;
-use sheet_alignments::{NumbersOf, Side};
+use sheet_alignments::{NumbersOf, Side, many_other_racks};
 use std::alloc::{AllocError, Global};
 
 /// 1 if the score of a line is wrong, and otherwise 0.
@@ -26,13 +26,14 @@ fn score_wrong(line: &Event, right: &Event) -> usize
     }
 }
 
-/// 1 if the total of a line is wrong, by what its player had, and otherwise 0.
-fn sum_wrong(line: &Event, had: i32) -> usize
+/// 1 if the total of a line is wrong, by what its player had and by the right total, and otherwise 0.
+fn sum_wrong(line: &Event, had: i32, right: &Event) -> usize
     requires { IsPoints had }
-    ensures number { result ≡ (if int_eq line.now.total (had +ℤ line.now.score) then 0 else 1) }
+    ensures number { result ≡ (if is_right_sum line.now.total (had +ℤ line.now.score) (Some right.now.total) then 0 else 1) }
     ensures few { result ≤ 1 }
 {
-    if line.total.value() == had + line.score.value() {
+    let due = Some(right.total.value());
+    if is_right_sum(line.total, had, line.score, due) {
         0
     } else {
         1
@@ -59,19 +60,20 @@ struct Wrong {
 fn wrong_at(written: &[Event], right: &[Event], place: usize) -> Wrong
     requires within { place < length written.now }
     requires also { place < length right.now }
-    ensures many { result.score + result.sum ≡ length (wrong_at written.now right.now place) }
+    ensures many { result.score + result.sum ≡ length (wrong_at None written.now right.now place) }
     ensures score { result.score ≤ 1 }
     ensures sum { result.sum ≤ 1 }
 {
     let line = &written[place];
-    let score = score_wrong(line, &right[place]);
-    let sum = sum_wrong(line, had_before(written, line.player, place));
+    let due = &right[place];
+    let score = score_wrong(line, due);
+    let sum = sum_wrong(line, had_before(written, line.player, place), due);
     Wrong { score, sum }
 }
 
 /// How many numbers of the lines are wrong, compared with the right ones.
 fn many_wrong(written: &[Event], right: &[Event]) -> u128
-    ensures many { result ≡ length (wrong_lines written.now right.now) }
+    ensures many { result ≡ length (wrong_lines None written.now right.now) }
     ensures few { result ≤ 36893488147419103230 }
 {
     let mut scores = 0;
@@ -100,14 +102,14 @@ fn wrong_on(
     Ok(many_wrong(written.as_slice(), right))
 }
 
-/// The cost of `first` and `second` wrong numbers on the two sheets, `unlisted` plays with a word that is not in the list, and
-/// `left_out` lines that are left out.
-fn costs(first: u128, second: u128, unlisted: usize, left_out: usize) -> u128
+/// The cost of `first` and `second` wrong numbers on the two sheets, `unlisted` plays with a word that is not in the list,
+/// `left_out` lines that are left out, and `racks` that are not of the player's own sheet.
+fn costs(first: u128, second: u128, unlisted: usize, left_out: usize, racks: usize) -> u128
     requires first { first ≤ 36893488147419103230 }
     requires second { second ≤ 36893488147419103230 }
-    ensures { result ≡ costs (first + second) unlisted left_out }
+    ensures { result ≡ costs (first + second) unlisted left_out racks }
 {
-    5 * (first + second) + 3 * unlisted as u128 + left_out as u128
+    5 * (first + second) + 3 * unlisted as u128 + left_out as u128 + racks as u128
 }
 
 /// What a choice costs.
@@ -126,5 +128,6 @@ pub(crate) fn cost_of(
     let first = wrong_on(alloc, sheets, Side::First, choice, right)?;
     let second = wrong_on(alloc, sheets, Side::Second, choice, right)?;
     let left_out = sheets.pairs.len().saturating_sub(corrected.right.len());
-    Ok(costs(first, second, corrected.unlisted, left_out))
+    let racks = many_other_racks(choice, sheets.pairs.as_slice());
+    Ok(costs(first, second, corrected.unlisted, left_out, racks))
 }

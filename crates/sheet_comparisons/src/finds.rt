@@ -13,7 +13,7 @@ use game_sheets::law_of_corrections;
 use gcg_read::{Players, Record};
 use lex_list::WordList;
 use ref_tiles::Rules;
-use sheet_alignments::NumbersOf;
+use sheet_alignments::{NumbersOf, many_other_racks};
 use std::alloc::{AllocError, Global};
 
 /// The best of the choices.
@@ -147,6 +147,10 @@ impl Find {
         requires { IsFoundTo rules.now list.now sheets.now choice self.old }
         ensures { OnOk result (IsFoundTo rules.now list.now sheets.now (choice + 1) self.new) }
     {
+        let racks = many_other_racks(choice, sheets.pairs.as_slice());
+        if self.is_cheaper(racks as u128) {
+            return Ok(());
+        }
         let written = sheets.events(alloc, NumbersOf::Taken, choice)?;
         match correct(alloc, rules, list, written)? {
             Correction::Stops(_) => Ok(()),

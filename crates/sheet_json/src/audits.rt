@@ -7,7 +7,10 @@ use answer_json::{
 use audit_lines::{AuditAnswer, ToldNumber};
 use call_stages::Verdict;
 use game_case::Finding;
+use game_sheets::Standing;
 use gcg_read::{Event, EventKind, Player, Record, Seat};
+use repair_answers::SheetAmount;
+use repair_json::{RepairObject, single_object};
 use serde::Serialize;
 use std::alloc::{AllocError, Global};
 use unread_lines::UnreadLine;
@@ -35,6 +38,13 @@ struct WrongObject {
     right: Option<i32>,
 }
 
+/// Who is ahead; no player if both have the same total.
+#[derive(Drop, Serialize)]
+struct AheadObject {
+    player: Option<u32>,
+    by: i32,
+}
+
 /// An audit.
 #[derive(Drop, Serialize)]
 struct AuditObject {
@@ -44,7 +54,25 @@ struct AuditObject {
     ending: Option<&'static str>,
     players: Vec<PlayerObject>,
     wrong: Vec<WrongObject>,
+    ahead: Option<AheadObject>,
+    ahead_by_sheet: Option<AheadObject>,
+    amount: Option<RepairObject>,
     unread_lines: Vec<UnreadObject>,
+}
+
+/// Who is ahead, if the rules allow each event of the corrected record.
+fn ahead_object(finding: &Finding, standing: &Standing) -> Option<AheadObject> {
+    match (finding, standing) {
+        (Finding::NoGame | Finding::Illegal { .. }, _) => None,
+        (_, Standing::Even) => Some(AheadObject {
+            player: None,
+            by: 0,
+        }),
+        (_, Standing::Ahead(player, by)) => Some(AheadObject {
+            player: Some(number_of(*player)),
+            by: *by,
+        }),
+    }
 }
 
 /// What is found of the corrected record.
@@ -196,7 +224,19 @@ fn wrong_objects(alloc: Global, answer: &AuditAnswer) -> Result<Vec<WrongObject>
     Ok(objects)
 }
 
-/// Appends an audit: the verdict of the corrected record, the players, each number that is wrong, and the lines that are not read.
+/// A bonus or a penalty that would explain the numbers, if there is one.
+fn amount_object(
+    alloc: Global,
+    amount: &Option<SheetAmount>,
+) -> Result<Option<RepairObject>, AllocError> {
+    match amount {
+        None => Ok(None),
+        Some(amount) => Ok(Some(single_object(alloc, &amount.record, &amount.repair)?)),
+    }
+}
+
+/// Appends an audit: the verdict of the corrected record, the players, each number that is wrong, who is ahead, a bonus or a penalty that
+/// would explain the numbers, and the lines that are not read.
 pub fn push_audit_answer(
     alloc: Global,
     text: &mut Vec<u8>,
@@ -211,6 +251,9 @@ pub fn push_audit_answer(
         ending: fields.ending,
         players: player_objects(alloc, &answer.audit.entry.record)?,
         wrong: wrong_objects(alloc, answer)?,
+        ahead: ahead_object(&answer.audit.entry.finding, &answer.audit.ahead),
+        ahead_by_sheet: ahead_object(&answer.audit.entry.finding, &answer.audit.written),
+        amount: amount_object(alloc, &answer.amount)?,
         unread_lines: unread_objects(alloc, unread)?,
     };
     push_object(alloc, text, &object)

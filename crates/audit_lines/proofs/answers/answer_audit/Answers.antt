@@ -16,4 +16,4 @@ returns-in_ok-answer_of-in-Ok g c =
     let made = c.in_ok-answer_of-in-Ok in
     read_on most_bytes old new (IsAuditOf rules list) (IsAuditAnswerOf rules list) (Ok c.in-Ok.audit) (Ok made.field-0)
     (subst (λ x. IsRead most_bytes old new (IsAuditOf rules list) (Ok x)) c.in-Ok.is c.in_ok-audit.ensures)
-    (λ text means. answered rules list text c.in-Ok.audit made.field-0 c.law_of_lines.ensures means made.ensures.audit made.ensures.numbers)
+    (λ text means. answered rules list text c.in-Ok.audit made.field-0 c.law_of_lines.ensures means made.ensures.audit made.ensures.numbers made.ensures.amount)

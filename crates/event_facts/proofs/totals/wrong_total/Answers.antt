@@ -6,8 +6,8 @@ use Rattle.event_facts.proofs.Numbers.{total_told, sum_shown, unlike}
 use Rattle.event_facts.proofs.Because.{total_differs}
 use Rattle.event_facts.proofs.totals.wrong_total.Goals as goal
 
-pub returns : goal.returns
-returns c =
+pub returns-clause-told : goal.returns-clause-told
+returns-clause-told c =
     let e = c.args.scene.now.event.now in
     let s = state_of c.args.scene.now.machine.now in
     let had = to_z-of_z {w = w32} {z = c.total.result} (search (rules, ints)) in

@@ -7,6 +7,6 @@ use Rattle.game_rows.proofs.wrong_lines.push_lines.Given as goal
 abbrev pub invariant-loop-place : goal.invariant-loop-place
 invariant-loop-place l =
     record {
-      wrong : l.wrong.items ≡ l.initial.wrong.items ++ wrong_to (renumbered l.right l.numbers) l.right l.place;
+      wrong : l.wrong.items ≡ l.initial.wrong.items ++ wrong_to l.stop (renumbered l.right l.numbers) l.right l.place;
       totals : HasTotals (take l.place (renumbered l.right l.numbers)) l.totals;
     }

@@ -7,10 +7,10 @@ use Rattle.record_repairs.proofs.candidates.is_past_room.Goals as goal
 pub returns : goal.returns
 returns c =
     let list = c.args.list.now in
-    let first = c.behind_sums-room.result in
+    let written = c.args.events.now in
     let left = c.behind_rows.result in
     let before = c.saturating_sub-before.result in
     λ rules walked full change at.
-    none_at_place c.law_of_changes.ensures rules list change c.args.events.now c.args.walk.now c.args.place before c.args.below first left walked c.requires.place c.requires.within
-    c.saturating_sub-before.ensures at c.behind_sums-room.ensures
-    (subst (λ (rows : List Row). Leaves first (many_in_rows list rows before) left) c.as_slice.ensures.value c.behind_rows.ensures) (c.is_full.ensures.0 full)
+    none_at_place c.law_of_changes.ensures rules list change written c.args.walk.now c.args.place before c.args.below left walked c.requires.place c.requires.within
+    c.saturating_sub-before.ensures at
+    (subst (λ (rows : List Row). Leaves c.args.below (many_in_rows list written rows before) left) c.as_slice.ensures.value c.behind_rows.ensures) (c.is_full.ensures.0 full)

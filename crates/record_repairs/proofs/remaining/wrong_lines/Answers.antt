@@ -1,4 +1,4 @@
-use Rattle.std.proofs.Common.{◌≡◌, length, arith}
+use Rattle.std.proofs.Common.{◌≡◌, None, length, arith}
 use Rattle.game_sheets.specs.WrongNumbers.{wrong_at}
 use Rattle.record_repairs.proofs.StayingWrong.{one_more, all_wrong}
 use Rattle.record_repairs.proofs.remaining.wrong_lines.Goals as goal
@@ -9,7 +9,7 @@ loop-place-init c = record { so_far = c.new-wrong.ensures.items }
 pub loop-place-preserved : goal.loop-place-preserved
 loop-place-preserved c =
     record {
-      so_far = one_more (wrong_at c.args.sheet.now c.args.right.now) c.loop-place.place c.loop-place.wrong.items c.push_wrong.new.wrong.items c.loop-place.invariant.so_far c.in_ok-push_wrong.ensures;
+      so_far = one_more (wrong_at None c.args.sheet.now c.args.right.now) c.loop-place.place c.loop-place.wrong.items c.push_wrong.new.wrong.items c.loop-place.invariant.so_far c.in_ok-push_wrong.ensures;
     }
 
 pub returns : goal.returns

@@ -1,13 +1,13 @@
-use Rattle.std.proofs.Common.{◌<◌, ◌≤◌, ◌∙◌, List, length, get_or, refl, sym, ap, subst, arith}
-use Rattle.std.proofs.lemmas.Option.{slice_get_read}
+use Rattle.std.proofs.Common.{◌<◌, ◌≤◌, ◌∙◌, List, length, take, sym, ap, subst, arith}
 use Rattle.gcg_read.specs.declared.events.Event.{Event}
 use Rattle.game_turns.specs.Machines.{rules_of, state_of}
-use Rattle.record_repairs.specs.Counting.{scores_but}
+use Rattle.game_sheets.proofs.Sheets.{some_event}
 use Rattle.record_repairs.specs.FirstSteps.{MayAddStep}
-use Rattle.record_repairs.proofs.Counted.{counts_none, counts_more, counts_full, refused_from}
+use Rattle.record_repairs.proofs.Counted.{counts_none, counts_more, counts_full, old_there, refused_from}
 use Rattle.record_repairs.proofs.FirstSteps.{noted_going}
 use Rattle.record_repairs.proofs.Leaving.{not_false}
 use Rattle.record_repairs.proofs.Trials.{begun, refused_by, went_by}
+use Rattle.record_repairs.proofs.WrongSums.{both_next, both_start, counted_there}
 use Rattle.record_repairs.proofs.trying.goes_on.Goals as goal
 
 pub loop-place-init : goal.loop-place-init
@@ -16,6 +16,9 @@ loop-place-init c =
       so_far = begun (rules_of c.args.game.now) c.args.list.now c.args.events.now c.args.start c.args.game.now c.copy-machine.result c.requires.game (omega arith) c.copy-machine.ensures.rules c.copy-machine.ensures.state;
       behind = omega arith;
       first = c.requires.first;
+      had = λ sheet but.
+          both_start c.args.events.now (take c.args.start c.as_slice.result.now) sheet c.args.missing c.args.start c.after-had.result.first c.after-had.result.second
+          (ap (λ (es : List Event). take c.args.start es) c.as_slice.ensures) but c.requires.missing c.after-had.ensures.first c.after-had.ensures.second;
       counts = counts_none (rules_of c.args.game.now) c.args.list.now c.args.events.now c.args.start c.args.missing c.args.room;
     }
 
@@ -29,24 +32,30 @@ loop-place-preserved c =
     c.mend.new.machine c.mend.result so c.mend.ensures.mended behind within (sym c.is_err.ensures.value ∙ c.if-is_err.false) c.mend.ensures.told c.mend.ensures.state c.mend.ensures.rules in
     let long = so.long in
     let long_next = next.long in
-    let o = c.index-as_slice-place.result in
-    let e = c.index-as_slice-place-in-loop-place.result in
-    let of_o = slice_get_read c.loop-place.events (length c.loop-place.events) c.loop-place.place o refl (omega (arith, within, long))
-    (c.index-as_slice-place.is ∙ ap (λ (es : List Event). get_or es c.loop-place.place o) c.as_slice-in-loop-place.ensures) in
-    let of_e = slice_get_read c.mend.new.events (length c.mend.new.events) c.loop-place.place e refl (omega (arith, within, long_next))
-    (c.index-as_slice-place-in-loop-place.is ∙ ap (λ (es : List Event). get_or es c.loop-place.place e) c.as_slice-in-loop-place-2.ensures) in
-    let written = ap (λ (x : Event). scores_but c.is_missing_at.result x.score (get_or c.as_slice-in-loop-place-2.result.now c.loop-place.place e).score) (sym c.index-as_slice-place.is) in
-    let right = ap (λ (x : Event). scores_but c.is_missing_at.result o.score x.score) (sym c.index-as_slice-place-in-loop-place.is) in
+    let was = some_event c.loop-place.events c.loop-place.place (omega (arith, within, long)) in
+    let is = some_event c.mend.new.events c.loop-place.place (omega (arith, within, long_next)) in
+    let o = was.event in
+    let e = is.event in
+    let player = c.line_at-written.ensures.player o was.stands in
+    let numbers = c.line_at-written.ensures.numbers o was.stands in
+    let stood = old_there (rules_of c.args.game.now) c.args.list.now c.args.events.now c.loop-place.events c.args.start c.loop-place.place c.loop-place.machine o so behind was.stands in
     record {
       so_far = next;
       behind = omega arith;
       first = noted_going (rules_of c.args.game.now) c.args.list.now c.args.events.now c.loop-place.events c.args.start c.loop-place.place c.loop-place.machine c.loop-place.first.steps.items
           c.note.new.self.steps.items so behind
-          (subst (λ (es : List Event). MayAddStep (state_of c.loop-place.machine) es c.loop-place.place c.loop-place.first.steps.items c.note.new.self.steps.items) c.as_slice.ensures c.in_ok-note.ensures)
+          (subst (λ (es : List Event). MayAddStep (state_of c.loop-place.machine) es c.loop-place.place c.loop-place.first.steps.items c.note.new.self.steps.items) c.as_slice-in-loop-place.ensures c.in_ok-note.ensures)
           c.loop-place.invariant.first;
+      had = λ sheet but.
+          both_next c.args.events.now sheet c.args.missing c.loop-place.place o c.loop-place.had.first c.loop-place.had.second c.note-numbers.new.self.first c.note-numbers.new.self.second
+          c.line_at-written.result.player c.line_at-written.result.numbers c.is_missing_at.result but within stood c.is_missing_at.ensures.1 player numbers (c.loop-place.invariant.had sheet but)
+          c.note-numbers.ensures.first c.note-numbers.ensures.second;
       counts = counts_more (rules_of c.args.game.now) c.args.list.now c.args.events.now c.loop-place.events c.mend.new.events c.args.start c.loop-place.place c.loop-place.machine c.mend.new.machine
-          c.args.missing c.args.room c.loop-place.room c.behind_event-room.result o e c.is_missing_at.result c.scores_but-scores.result so next behind within of_o of_e c.is_missing_at.ensures.1
-          (c.scores_but-scores.ensures ∙ written ∙ right) c.behind_event-room.ensures c.loop-place.invariant.counts;
+          c.args.missing c.args.room c.loop-place.room c.behind_event-room.result o e c.loop-place.had.first c.loop-place.had.second c.is_missing_at.result c.note-numbers.result so next behind within
+          was.stands is.stands c.is_missing_at.ensures.1 c.loop-place.invariant.had
+          (counted_there o e c.loop-place.had.first c.loop-place.had.second c.line_at-written.result.player c.line_at-written.result.numbers c.line_at-right.result.numbers c.is_missing_at.result
+          c.note-numbers.result player numbers (c.line_at-right.ensures.numbers e is.stands) c.note-numbers.ensures.many)
+          c.behind_event-room.ensures c.loop-place.invariant.counts;
     }
 
 pub returns-then-is_full : goal.returns-then-is_full
@@ -71,7 +80,7 @@ returns-then-is_err c =
           c.mend.ensures.mended behind within (sym c.is_err.ensures.value ∙ c.if-is_err.true) c.mend.ensures.told c.mend.ensures.left);
       first = noted_going (rules_of c.args.game.now) c.args.list.now c.args.events.now c.loop-place.events c.args.start c.loop-place.place c.loop-place.machine c.loop-place.first.steps.items
           c.note.new.self.steps.items so behind
-          (subst (λ (es : List Event). MayAddStep (state_of c.loop-place.machine) es c.loop-place.place c.loop-place.first.steps.items c.note.new.self.steps.items) c.as_slice.ensures c.in_ok-note.ensures)
+          (subst (λ (es : List Event). MayAddStep (state_of c.loop-place.machine) es c.loop-place.place c.loop-place.first.steps.items c.note.new.self.steps.items) c.as_slice-in-loop-place.ensures c.in_ok-note.ensures)
           c.loop-place.invariant.first;
     }
 

@@ -1,8 +1,11 @@
-use Rattle.std.proofs.Common.{◌≤◌}
+use Rattle.std.proofs.Common.{◌≤◌, List}
+use Rattle.gcg_read.specs.declared.events.Event.{Event}
 use Rattle.game_turns.specs.Machines.{rules_of}
 use Rattle.record_repairs.specs.FirstSteps.{AreFirstSteps}
+use Rattle.record_repairs.specs.Sums.{IsSheetBut}
 use Rattle.record_repairs.proofs.Counted.{Counts}
 use Rattle.record_repairs.proofs.Trials.{GoesTo}
+use Rattle.record_repairs.proofs.WrongSums.{KnowsBoth}
 use Rattle.record_repairs.proofs.trying.goes_on.Given as goal
 
 abbrev pub invariant-loop-place : goal.invariant-loop-place
@@ -11,5 +14,6 @@ invariant-loop-place l =
       so_far : GoesTo (rules_of l.game) l.list l.initial.events l.events l.start l.place l.machine;
       behind : l.start ≤ l.place;
       first : AreFirstSteps (rules_of l.game) l.list l.initial.events l.first.steps.items;
+      had : (sheet : List Event) → IsSheetBut l.initial.events l.missing sheet → KnowsBoth sheet l.place l.had.first l.had.second;
       counts : Counts (rules_of l.game) l.list l.initial.events l.start l.place l.missing l.initial.room l.room;
     }

@@ -1,13 +1,12 @@
-use Rattle.std.proofs.Common.{List, length, refl, sym, subst, arith}
+use Rattle.std.proofs.Common.{List, refl, sym, subst, arith}
 use Rattle.gcg_read.specs.declared.events.Event.{Event}
 use Rattle.game_turns.specs.Machines.{rules_of}
 use Rattle.game_rows.specs.declared.rows.Row.{Row}
 use Rattle.record_changes.specs.Applied.{applied}
 use Rattle.record_repairs.specs.FirstSteps.{AreFirstSteps}
 use Rattle.record_repairs.specs.Trying.{IsStart}
-use Rattle.record_repairs.specs.Counting.{Leaves, many_in_rows, many_sums}
-use Rattle.record_repairs.specs.Sums.{IsSheetBut}
-use Rattle.record_repairs.proofs.Counted.{none_by, from_by_rules}
+use Rattle.record_repairs.specs.Counting.{Leaves, many_in_rows}
+use Rattle.record_repairs.proofs.Counted.{none_by, missing_behind, from_by_rules}
 use Rattle.record_repairs.proofs.FirstSteps.{first_for, kept_before}
 use Rattle.record_repairs.proofs.Leaving.{not_false}
 use Rattle.record_repairs.proofs.Starts.{moved}
@@ -20,10 +19,17 @@ goes_on-requires-clause-game c =
     let changed = c.in_ok-changed.changed in
     let written = c.args.events.now in
     let same = same_before c.law_of_changes.ensures c.args.change.now written changed c.in_ok-changed.ensures in
-    let is = subst (λ (es : List Event). IsStart written es c.args.change.now.place c.start_of-start.result) c.as_slice-2.ensures c.start_of-start.ensures in
+    let is = subst (λ (es : List Event). IsStart written es c.args.change.now.place c.start_of-start.result) c.as_slice.ensures c.start_of-start.ensures in
     by_own c.args.rules.now c.args.list.now changed c.start_of-start.result c.in-Some.game.now
     (moved c.args.rules.now c.args.list.now written changed c.args.change.now.place c.start_of-start.result c.in-Some.game.now (c.in-Some.ensures.game c.args.rules.now c.args.list.now written c.requires.walk)
     is (omega arith) (omega arith) same)
+
+pub goes_on-requires-clause-missing : goal.goes_on-requires-clause-missing
+goes_on-requires-clause-missing c =
+    let changed = c.in_ok-changed.changed in
+    let written = c.args.events.now in
+    let is = subst (λ (es : List Event). IsStart written es c.args.change.now.place c.start_of-start.result) c.as_slice.ensures c.start_of-start.ensures in
+    missing_behind c.args.change.now c.missing_place-missing.result c.start_of-start.result c.missing_place-missing.ensures is.before
 
 pub goes_on-requires-clause-first : goal.goes_on-requires-clause-first
 goes_on-requires-clause-first c =
@@ -33,7 +39,7 @@ goes_on-requires-clause-first c =
     let changed = c.in_ok-changed.changed in
     let start = c.start_of-start.result in
     let same = same_before c.law_of_changes.ensures c.args.change.now written changed c.in_ok-changed.ensures in
-    let is = subst (λ (es : List Event). IsStart written es c.args.change.now.place start) c.as_slice-2.ensures c.start_of-start.ensures in
+    let is = subst (λ (es : List Event). IsStart written es c.args.change.now.place start) c.as_slice.ensures c.start_of-start.ensures in
     let at = c.in-Some.ensures.game rules list written c.requires.walk in
     kept_before (rules_of c.in-Some.game.now) rules list written changed c.args.change.now.place start c.args.stop.now c.in_ok-first.first.steps.items at.by c.in_ok-first.ensures c.requires.stop is same
 
@@ -46,17 +52,15 @@ returns-then-not-branch c =
     let missing = c.missing_place-missing.result in
     let start = c.start_of-start.result in
     let rows = c.args.walk.now.rows.items in
-    let first = c.behind_sums-room.result in
     let left = c.behind_rows-room.result in
     let same = same_before c.law_of_changes.ensures c.args.change.now written changed c.in_ok-changed.ensures in
-    let is = subst (λ (es : List Event). IsStart written es c.args.change.now.place start) c.as_slice-2.ensures c.start_of-start.ensures in
-    let sums = subst (λ (es : List Event). (sheet : List Event) → IsSheetBut es missing sheet → Leaves c.args.below (many_sums sheet (length es)) first) c.as_slice.ensures c.behind_sums-room.ensures in
-    let of_rows = subst (λ (rs : List Row). Leaves first (many_in_rows list rs start) left) c.as_slice-rows.ensures.value c.behind_rows-room.ensures in
+    let is = subst (λ (es : List Event). IsStart written es c.args.change.now.place start) c.as_slice.ensures c.start_of-start.ensures in
+    let of_rows = subst (λ (rs : List Row). Leaves c.args.below (many_in_rows list written rs start) left) c.as_slice-rows.ensures.value c.behind_rows-room.ensures in
     let at = c.in-Some.ensures.game rules list written c.requires.walk in
     λ no.
     told_by_fewer rules list written c.args.below c.args.change.now
-    (none_by rules list c.args.change.now written changed c.args.walk.now start missing c.args.below first left c.in_ok-changed.ensures c.requires.walk is (omega arith) (omega arith) (omega arith) same
-    c.missing_place-missing.ensures sums of_rows
+    (none_by rules list c.args.change.now written changed c.args.walk.now start missing c.args.below left c.in_ok-changed.ensures c.requires.walk is (omega arith) (omega arith) (omega arith) same
+    c.missing_place-missing.ensures of_rows
     (from_by_rules (rules_of c.in-Some.game.now) rules list changed start missing left at.by (c.in_ok-goes_on.ensures.none c.if-not-branch.true)))
 
 pub returns : goal.returns
@@ -70,5 +74,5 @@ returns c =
     λ no.
     told_by_racks rules list written c.args.below change
     (c.are_stopped.ensures (not_false c.are_stopped.result no) list (applied change written)
-    (subst (λ steps. AreFirstSteps rules list (applied change written) steps) (sym c.as_slice-3.ensures.value)
+    (subst (λ steps. AreFirstSteps rules list (applied change written) steps) (sym c.as_slice-2.ensures.value)
     (first_for (rules_of c.in-Some.game.now) rules list c.in_ok-changed.changed (applied change written) first first at.by c.in_ok-changed.ensures refl c.in_ok-goes_on.ensures.first)))

@@ -7,8 +7,9 @@ use Rattle.game_turns.specs.Tallies.{withdraws}
 use Rattle.lex_check.specs.Pairs.{list_in}
 use Rattle.game_rows.specs.declared.numbers.Numbers.{Numbers}
 use Rattle.game_rows.specs.Walks.{IsWalk}
+use Rattle.game_sheets.specs.WrongNumbers.{had_before}
 use Rattle.score_sheets.specs.Gains.{given_by}
-use Rattle.score_sheets.specs.Rows.{should_be, IsBestAt, IsNotedAt}
+use Rattle.score_sheets.specs.Rows.{should_be, known_if, total_should_be, IsBestAt, IsNotedAt}
 use Rattle.game_rows.proofs.Steps.{walk_renumbered}
 use Rattle.score_sheets.proofs.SameTurns.{same_best}
 use Rattle.score_sheets.proofs.rows.row_at.Goals as goal
@@ -37,7 +38,9 @@ returns c =
       stood = stood;
       stands = numbers.stands;
       score = c.should_be.ensures ∙ ap (λ (n : Numbers). should_be own.score n.score) numbers.own;
-      total = c.should_be-2.ensures ∙ ap (λ (n : Numbers). should_be own.total n.total) numbers.own;
+      total = c.total_should_be.ensures
+          ∙ ap (λ (h : ℤ). total_should_be h own c.known_if-due.result) (to_z-of_z {w = w32} (search (rules, ints)) ∙ c.had_before-had.ensures.had)
+          ∙ ap (total_should_be (had_before events own.player place) own) (c.known_if-due.ensures ∙ ap (λ (n : Numbers). known_if c.in_ok-noted.noted.allowed n.total) numbers.own);
       best =
           same_best own_rules list right place own numbers.event (given_by taken numbers.event.score) c.in_ok-there.there.best
           ((walk_renumbered own_rules list events right c.args.walk.now is).each place own numbers.event stood numbers.stands)

@@ -7,8 +7,9 @@ use Rattle.game_rows.specs.Walks.{IsWalk}
 use Rattle.score_sheets.specs.Boards.{ArePictures, IsShownAt}
 use Rattle.score_sheets.specs.Positions.{ArePositions}
 use Rattle.score_sheets.specs.Rows.{AreSheetRows}
+use Rattle.game_sheets.specs.Standings.{IsStanding}
 use Rattle.score_sheets.specs.Gains.{gains_to, IsGain}
-use Rattle.score_sheets.specs.Sums.{best_of, IsStanding}
+use Rattle.score_sheets.specs.Sums.{best_of}
 use Rattle.score_sheets.proofs.sheets.score_sheet.Goals as goal
 
 pub returns : goal.returns

@@ -1,4 +1,5 @@
 use Rattle.std.proofs.Common.{◌≡◌, ◌-◌, ◌∙◌, ap, length, arith}
+use Rattle.sheet_alignments.specs.Merging.{many_other_racks}
 use Rattle.sheet_alignments.specs.declared.pairs.Side.TheVariants.{First, Second}
 use Rattle.sheet_comparisons.specs.Choices.{wrong_on, cost_of}
 use Rattle.sheet_comparisons.proofs.costs.cost_of.Goals as goal
@@ -15,5 +16,6 @@ returns c =
     let events = c.len-2.ensures in
     let rest = c.saturating_sub-left_out.ensures in
     let left : c.saturating_sub-left_out.result ≡ length s.pairs.items - length right = omega (arith, pairs, events, rest) in
+    let racks = c.many_other_racks-racks.ensures.many ∙ ap (many_other_racks c.args.choice) c.as_slice.ensures.value in
     let total = c.costs.ensures in
-    omega (arith, total, first, second, is, left)
+    omega (arith, total, first, second, is, left, racks)

@@ -1,0 +1,30 @@
+//! A slip of the whole sheet that repairs a record.
+
+use gcg_read::Record;
+use repair_answers::SheetRepair;
+use repair_words::{push_evidence, push_sheet_slip};
+use std::alloc::AllocError;
+
+/// Appends the evidence for a slip of the whole sheet.
+pub(crate) fn push_sheet_evidence(
+    text: &mut Vec<u8>,
+    repair: &SheetRepair,
+) -> Result<(), AllocError> {
+    let numbers = 2 * repair.right.len() as u128;
+    push_evidence(text, &repair.alone.remains, numbers)
+}
+
+/// Appends a slip of the whole sheet that repairs a record, and its evidence.
+pub(crate) fn push_sheet(
+    text: &mut Vec<u8>,
+    record: &Record,
+    repair: &SheetRepair,
+) -> Result<(), AllocError> {
+    push_sheet_slip(text, record.events.as_slice(), &repair.slip)?;
+    text.extend_from_slice(if repair.alone.is_game {
+        b"\n"
+    } else {
+        b" (no deal was found)\n"
+    })?;
+    push_sheet_evidence(text, repair)
+}

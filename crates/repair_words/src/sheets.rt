@@ -1,0 +1,91 @@
+//! A slip of the whole sheet in words.
+
+use gcg_read::Event;
+use sentence_parts::say_of_line;
+use sheet_slips::{RunningSlip, SheetSlip, Way, changes};
+use std::alloc::AllocError;
+use unread_lines::{UnreadLine, UnreadWhy};
+
+/// Appends what is wrong with a line that is not read.
+fn push_unread(text: &mut Vec<u8>, line: UnreadLine) -> Result<(), AllocError> {
+    let what = match line.why {
+        UnreadWhy::Blank => ": a blank is before its >",
+        UnreadWhy::Before => ": something is before its >",
+        UnreadWhy::OtherSign => ": another sign is in place of its >",
+        UnreadWhy::NoMark | UnreadWhy::Parts => ": > is missing",
+    };
+    say_of_line(text, "line ", line.line, what)
+}
+
+/// What a slip is about that runs through the sheet.
+fn about(slip: RunningSlip) -> &'static str {
+    match slip {
+        RunningSlip::Interchanged | RunningSlip::OneOff(_) => "all places",
+        RunningSlip::OtherCase => "all words",
+        RunningSlip::OtherPlayer => "all lines",
+    }
+}
+
+/// How far a place is off, if the right one is there, seen from it.
+fn off(way: Way) -> &'static str {
+    match way {
+        Way::Left => " are one column too far right",
+        Way::Right => " are one column too far left",
+        Way::Up => " are one row too far down",
+        Way::Down => " are one row too far up",
+    }
+}
+
+/// What is wrong with that.
+fn wrong(slip: RunningSlip) -> &'static str {
+    match slip {
+        RunningSlip::Interchanged => " have row and column interchanged",
+        RunningSlip::OneOff(way) => off(way),
+        RunningSlip::OtherCase => " have small letters and capitals interchanged",
+        RunningSlip::OtherPlayer => " have the name of the other player",
+    }
+}
+
+/// Whether a slip changes no line before a place.
+fn is_from_start(events: &[Event], place: usize, slip: RunningSlip) -> bool {
+    for (number, event) in events.iter().enumerate() {
+        if number < place && changes(slip, &event.kind) {
+            return false;
+        }
+    }
+    true
+}
+
+/// Appends from which line on a slip is on each line, unless it is on all.
+fn push_from(
+    text: &mut Vec<u8>,
+    events: &[Event],
+    place: usize,
+    slip: RunningSlip,
+) -> Result<(), AllocError> {
+    if is_from_start(events, place, slip) {
+        return Ok(());
+    }
+    match events.get(place) {
+        Some(event) => say_of_line(text, " from line ", event.line, " on"),
+        None => Ok(()),
+    }
+}
+
+/// Appends a slip of the whole sheet of a record with these events.
+///
+/// It fails only if memory runs out.
+pub fn push_sheet_slip(
+    text: &mut Vec<u8>,
+    events: &[Event],
+    slip: &SheetSlip,
+) -> Result<(), AllocError> {
+    match slip {
+        SheetSlip::Unread(line) => push_unread(text, *line),
+        SheetSlip::Running { place, slip } => {
+            text.extend_from_slice(about(*slip).as_bytes())?;
+            push_from(text, events, *place, *slip)?;
+            text.extend_from_slice(wrong(*slip).as_bytes())
+        }
+    }
+}

@@ -1,0 +1,14 @@
+-- The text of a sheet without a slip of the whole sheet.
+use Rattle.std.specs.Prelude.{ℕ, List}
+use Rattle.gcg_read.specs.declared.events.Event.{Event}
+use Rattle.gcg_read.specs.declared.players.Players.{Players}
+use Rattle.gcg_numbers.specs.Numbers.{text_with}
+use Rattle.sheet_slips.specs.declared.slips.SheetSlip.{SheetSlip}
+use Rattle.sheet_slips.specs.declared.slips.SheetSlip.TheVariants as slip
+use Rattle.sheet_slips.specs.Mending.{mended_text}
+use Rattle.repaired_sheets.specs.Running.{text_without}
+
+-- With the line that is not read as an event, and the right numbers on each line; or with the lines that the slip changes written anew.
+abbrev pub sheet_without : SheetSlip → Players → (right : List Event) → (text : List ℕ) → List ℕ
+sheet_without (slip.Unread line) players right text = text_with right (mended_text line text)
+sheet_without (slip.Running place s) players right text = text_without s place players right text

@@ -1,0 +1,3 @@
+pub mod Mended
+pub mod Read
+pub mod Listed

@@ -1,0 +1,9 @@
+-- The weight of a slip of the whole sheet: a smaller one is likelier.
+use Rattle.std.specs.Prelude.{ℕ}
+use Rattle.sheet_slips.specs.declared.slips.SheetSlip.{SheetSlip}
+use Rattle.sheet_slips.specs.declared.slips.SheetSlip.TheVariants as slip
+
+-- A line that is not read is there to be seen: nothing weighs against that it should be an event.
+abbrev pub weight_of : SheetSlip → ℕ
+weight_of (slip.Unread line) = 0
+weight_of (slip.Running place s) = 2

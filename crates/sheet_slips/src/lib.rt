@@ -1,0 +1,25 @@
+//! Slips that run through a whole sheet: all of them that a record may have, and the record without one.
+//!
+//! A line that is not read may be an event whose `>` is missing, or the same slip may be on each line from one on: places whose row and column are
+//! interchanged, places that are one square off, small letters for capitals, the name of the other player. [`sheet_slips`] lists them, and
+//! [`without_slip`] gives the events of the record without one of them.
+#![tactic(auto)]
+
+mod begins;
+mod copying;
+mod listing;
+mod mending;
+mod readings;
+mod righting;
+mod running;
+mod slips;
+mod squares;
+mod undoing;
+mod weights;
+
+pub use listing::sheet_slips;
+pub use mending::mended_text;
+pub use righting::changes;
+pub use slips::{RunningSlip, SheetSlip, Way};
+pub use undoing::without_slip;
+pub use weights::weight_of;

@@ -1,0 +1,41 @@
+//! The events of a record without a slip of the whole sheet.
+ghost use Rattle.std.specs.Prelude.{◌≡◌, IfOk};
+ghost use Rattle.sheet_slips.specs.Mending.{mended_text};
+ghost use Rattle.sheet_slips.specs.Undoing.{events_in, without_slip};
+
+use crate::mending::mended_text;
+use crate::readings::events_in;
+use crate::running::running_without;
+use crate::slips::SheetSlip;
+use gcg_read::{Event, Events};
+use std::alloc::{AllocError, Global};
+use unread_lines::UnreadLine;
+
+/// The events of a text in which a line that is not read is an event, if it is a record then.
+fn with_line(alloc: Global, unread: UnreadLine, text: &[u8]) -> Result<Option<Events>, AllocError>
+    ensures { IfOk result (λ events. events ≡ events_in (mended_text unread text.now)) }
+{
+    let mended = mended_text(alloc, unread, text)?;
+    events_in(alloc, mended.as_slice())
+}
+
+/// The events of a record without a slip of the whole sheet, given its text and the events that were read from it. `None` if the text with the line that
+/// is not read as an event is not a record, or if the slip cannot be on each line.
+///
+/// It fails only if memory runs out.
+pub fn without_slip(
+    alloc: Global,
+    slip: &SheetSlip,
+    text: &[u8],
+    written: &[Event],
+) -> Result<Option<Events>, AllocError>
+    ensures { IfOk result (λ right. right ≡ without_slip slip.now text.now written.now) }
+{
+    match slip {
+        SheetSlip::Unread(unread) => with_line(alloc, *unread, text),
+        SheetSlip::Running {
+            place,
+            slip: running,
+        } => running_without(alloc, *running, *place, written),
+    }
+}
