@@ -1410,7 +1410,7 @@ def audited(run):
     missing = "line 3: sum 21, should be 16 (A, -)\nOr: before line 2: A gets 5 points for a failed challenge\n  8 of 8 numbers right\nlegal unfinished\n" + by_sheet % 21
     run.row(["audit", "word", "word.gad", "bonus-missing"], 1, missing)
     Path(run.folder, "out").write_bytes(b"as it was")
-    held = "not written: first say which it is, the bonus or the penalty after Or: or the wrong number\n"
+    held = "not written: either the bonus or penalty after Or: is missing, or the number is wrong\n"
     run.row(["audit", "--corrected", "out", "word", "word.gad", "bonus-missing"], 1, missing + held, wrote=b"as it was")
     run.row(["audit", "word-at-ra", "word-at-ra.gad", "unlisted"], 0, "legal unfinished\nA is ahead by 7\n")
     for words, status, out in [
@@ -1502,13 +1502,16 @@ def repairs_listed(run):
     numbers_alone(run, at)
     eat = ">A: E 9F E.. +5 21\n"
     through_sheet(run, at, eat)
+    other_list(run, at, eat)
+    misread_twice(run, at, eat)
+    bad_lines(run, at, eat)
     Path(run.folder, "passes").write_text(f"{WORD}{at}>A: - +0 16\n{eat}")
     passes = "illegal line 4: NotYourTurn\nline 3: it should not be there\n  6 of 6 numbers right\n"
     run.row(["repair", "--number", "1", "all", "all.gad", "passes"], 1, passes)
     wrong = ">A: AADEORW E8 WORD +16 16\n>B: AT 9H AT +9 9\n"
     Path(run.folder, "two").write_text(wrong)
     Path(run.folder, "three").write_text(wrong + eat)
-    none = "illegal line 1: MissesCentre\nnone of 511 single changes makes it a game\n"
+    none = "illegal line 1: MissesCentre\nnone of 611 single changes makes it a game\n"
     pair = "with two changes:\nline 1: WORD at 8E, not at E8; and line 2: AT at 9G, not at 9H\n  6 of 6 numbers right\n"
     run.row(["repair", "--number", "1", "all", "all.gad", "three"], 1, none + pair)
     run.row(["repair", "--number", "1", "--repaired", "out", "all", "all.gad", "three"], 1, none + pair + "not written: no single change repairs it\n")
@@ -1559,10 +1562,91 @@ def through_sheet(run, at, eat):
     run.expect(f"totals that are wrong by the same from a line on are one wrong number: {told}", one in told)
 
 
+def misread_twice(run, at, eat):
+    """`repair` of a sheet on which one tile is misread on the rack and in the word, and of one on which it is on the rack and in the exchange. On the first
+    the scores say which tile it is, and the sheet is written with it; on the second nothing does."""
+    played = "illegal line 1: WrongScore 30\nline 1: WORD at 8E, not WXRD: the X on the rack is O too\n  6 of 6 numbers right\n"
+    played += "with only the numbers corrected it is a game\n  4 of 6 numbers right\n  line 1: score 16, should be 30\n  line 3: score 5, should be 12\n  not in the list: WXRD, XE\n"
+    exchanged = "illegal line 2: TilesShort Z\nline 2: an exchange of AA, not AZ: the Z on the rack is A too (or with B, C, D, E, F, G, H, I, J, K, L, M, N, O, P, Q, R, S, T, U, V, W, X, Y, ?)\n  6 of 6 numbers right\n"
+    Path(run.folder, "za").write_text("ZA\n")
+    run.row(["build", "za", "za.gad"], 0)
+    rows = [  # the list, the sheet, what is told, what it ends with, the sheet that is written, the name of the slip and the line that is put there
+        ("all", f">A: AADEXRW 8E WXRD +16 16\n{at}{eat}", played, "written: the sheet with the first repair\n", f">A: AADEORW 8E WORD +16 16\n{at}{eat}", "in word", ">A: AADEORW 8E WORD +16 16"),
+        ("za", ">A: AEINRSZ 8G ZA +22 22\n>B: AABCDDZ -AZ +0 0\n>A: - +0 22\n", exchanged, "not written: the second repair is nearly as likely as the first\n", "as it was", "exchanged", ">B: AAABCDD -AA +0 0"),
+    ]
+    for words, sheet, told, ends, written, name, line in rows:
+        Path(run.folder, "misread-twice").write_text(sheet)
+        Path(run.folder, "out").write_bytes(b"as it was")
+        asked = [words, f"{words}.gad", "misread-twice"]
+        run.row(["repair", "--number", "1", "--repaired", "out", *asked], 1, told + ends, wrote=written.encode())
+        found = json.loads(subprocess.run([run.program, "repair", "--json", *asked], cwd=run.folder, capture_output=True, check=False).stdout)
+        first = found["repairs"][0]
+        run.expect(f"the object of {sheet}", (first["slip"], first["lines"]) == (f"other tile on rack and {name}", [line]))
+
+
+def bad_lines(run, at, eat):
+    """`repair` of texts that are no records because of one of their lines: its first repair, and the sheet that is written with it."""
+    word, names = ">A: AADEORW 8E WORD +16 16\n", "#player1 A\n#player2 B\n"
+    rows = [  # the text, its verdict, the first repair, the place that it gives, and the sheet with it
+        (word.replace("8E ", "") + at + eat, "line 1: Code", "line 1: the place is missing: 8E", "8E", word + at + eat),
+        (">A: WORD +16 16\n" + at + eat, "line 1: Code", "line 1: the place is missing: 8E", "8E", ">A: 8E WORD +16 16\n" + at + eat),
+        (word + at + eat.replace("9F ", "").replace("\n", " \r\n"), "line 3: Code", "line 3: the place is missing: 9F", "9F", word + at + eat.replace("\n", " \r\n")),
+        (word + "> B thinks\n" + at + eat, "line 2: NoColon", "line 2: > should not be there", None, word + " B thinks\n" + at + eat),
+        (names + word + ">" + at + eat, "line 4: ThirdPlayer", "line 4: > should not be there", None, names + word + at + eat),
+    ]
+    for sheet, verdict, first, place, there in rows:
+        Path(run.folder, "bad").write_bytes(sheet.encode())
+        Path(run.folder, "out").unlink(missing_ok=True)
+        done = subprocess.run([run.program, "repair", "--repaired", "out", "all", "all.gad", "bad"], cwd=run.folder, capture_output=True, check=False)
+        told = done.stdout.decode()
+        begins, ends = f"bad record {verdict}\n{first}\n  6 of 6 numbers right\n", "written: the sheet with the first repair\n"
+        run.expect(f"the bad line of {sheet}told {told}", done.returncode == 3 and told.startswith(begins) and told.endswith(ends))
+        written = Path(run.folder, "out").read_bytes().decode() if Path(run.folder, "out").exists() else None
+        run.expect(f"the sheet without the bad line of {sheet}written {written}", written == there)
+        done = subprocess.run([run.program, "repair", "--json", "all", "all.gad", "bad"], cwd=run.folder, capture_output=True, check=False)
+        found = json.loads(done.stdout)
+        one = found["line_slips"][0]
+        wanted = {"slip": "no place" if place else "> too many", "line": found["line"], "place": place, "settled": True, "weight": 0, "cost": 0}
+        evidence = {"numbers": 6, "numbers_right": 6, "wrong": [], "unlisted": []}
+        run.expect(f"the object of the bad line of {sheet}has {found}", done.returncode == 3 and one == {**wanted, "evidence": evidence})
+    places = "line 1: the place is missing: 8E (or 8F, 8G, 8H and 4 more)\n  2 of 2 numbers right\n"
+    close = "not written: it is not a record, and another repair is as likely as the first, or nearly so, or the first leaves numbers wrong\n"
+    Path(run.folder, "out").write_bytes(b"as it was")
+    for sheet, out in [
+        (word.replace("8E ", ""), f"bad record line 1: Code\n{places}{close}"),
+        (word.replace("8E ", "").replace(" 16", " I6"), "bad record line 1: Code\nnot written: it is not a record\n"),
+        (word + "> B has 3 left\n", "bad record line 2: NoColon\nnot written: it is not a record\n"),
+        (word + ">B 9G AT +9 9\n", "bad record line 2: NoColon\nnot written: it is not a record\n"),
+    ]:
+        Path(run.folder, "bad").write_text(sheet)
+        run.row(["repair", "--repaired", "out", "all", "all.gad", "bad"], 3, out, error=None, wrote=b"as it was")
+    blanks = ">A: AADEO?W 8E WORD +14 14\n>B: A? 9G AT +6 6\n>A: E 9F E.. +4 18\n"
+    Path(run.folder, "bad").write_text(blanks)
+    told = subprocess.run([run.program, "repair", "all", "all.gad", "bad"], cwd=run.folder, capture_output=True, check=False).stdout.decode()
+    run.expect(f"blanks as capitals: {told}", told.startswith("illegal line 1: WrongScore 16\nall blanks are written as capitals\n  6 of 6 numbers right\n"))
+    kept = subprocess.run([run.program, "repair", "--repaired", "out", "all", "all.gad", "bad"], cwd=run.folder, capture_output=True, check=False).stdout.decode()
+    unsure = kept.endswith("not written: of two equal letters in a word either may be the blank\n") and Path(run.folder, "out").read_bytes() == b"as it was"
+    run.expect(f"no sheet is written where either letter may be the blank: {kept}", unsure)
+    found = json.loads(subprocess.run([run.program, "repair", "--json", "all", "all.gad", "bad"], cwd=run.folder, capture_output=True, check=False).stdout)
+    one = found["sheet_slips"][0]
+    wanted = ("blanks as capitals", [1, 2], [">A: AADEOW? 8E WOrD +14 14", ">B: A? 9G At +6 6"], 2)
+    run.expect(f"the object of blanks as capitals: {one}", (one["slip"], one["replaces"], one["lines"], one["cost"]) == wanted)
+
+
 def numbers_alone(run, at):
     """`repair` of a sheet on which only a score is wrong, for which no change of the play makes up: the sheet is written with the right one."""
     Path(run.folder, "scored").write_text(WORD.replace("+16 16", "+18 18") + at)
     run.row(["repair", "--repaired", "out", "all", "all.gad", "scored"], 1, None, wrote=(WORD + at).encode())
+
+
+def other_list(run, at, eat):
+    """`repair` of a sheet with a wrong total that was perhaps played with another list: OWRD for WORD would avoid a word, and is not told."""
+    Path(run.folder, "owrd").write_text("OWRD\n")
+    run.row(["build", "owrd", "owrd.gad"], 0)
+    Path(run.folder, "other").write_text(WORD + at + eat.replace("+5 21", "+5 22"))
+    told = subprocess.run([run.program, "repair", "owrd", "owrd.gad", "other"], cwd=run.folder, capture_output=True, check=False).stdout.decode()
+    begins = "illegal line 3: WrongTotal 21\n6 words of the plays are not in the list: perhaps the game was played with another word list\n"
+    run.expect(f"no letters trade places to avoid a word: {told}", told.startswith(begins) and "OWRD at 8E" not in told)
 
 
 def compared(run):
@@ -1795,6 +1879,30 @@ BY_POINTS = [  # by the list AT: a record, how many points more the best play of
     (">A: AADERTW 8H AT +4 4\n", 0, "best 8G AT 4, equal", "equal", 0),
     (">A: AADERTW - +0 0\n", 4, "best 8G AT 4, 4 more", "+4", 4),
 ]
+
+
+KEPT_BESTS = [  # by the list WORD, AT, RA: turns in which players pass with the same racks while the board is the same, and after it changed
+    ("A", "AEINRST", "- +0 0", "8G AT 4", ", 4 more"),
+    ("B", "AADEORW", "- +0 0", "8E WORD 16", ", 16 more"),
+    ("A", "AEINRST", "- +0 0", "8G AT 4", ", 4 more"),
+    ("B", "AADEORW", "8E WORD +16 16", "8E WORD 16", ", equal"),
+    ("A", "AEINRST", "- +0 0", "G8 .A 3", ", 3 more"),
+    ("B", "AAEEFGG", "- +0 16", "G8 .A 3", ", 3 more"),
+    ("A", "AEINRST", "G8 .A +3 3", "G8 .A 3", ", equal"),
+    ("B", "AAEEFGG", "- +0 16", "none", ""),
+]
+
+
+def kept_bests(run):
+    """The best play of a rack is not the one that was found for it before the board changed."""
+    run.row(["build", "word-at-ra", "word-at-ra.gad"], 0)
+    words = ["word-at-ra", "word-at-ra.gad", "kept-bests"]
+    lines = [f">{nick}: {rack} {event}\n" for nick, rack, event, *_ in KEPT_BESTS]
+    Path(run.folder, "kept-bests").write_text("".join(lines))
+    told = "".join(f"{k} {nick} {event} best {best}\n" for k, (nick, _, event, best, _) in enumerate(KEPT_BESTS, 1))
+    run.row(["judge", *words], 0, f"legal unfinished\n{told}")
+    notes = [f"#note best {best}{more}\n" if more else "#note no play is possible\n" for *_, best, more in KEPT_BESTS]
+    run.row(["annotate", *words], 0, "".join(map("".join, zip(lines, notes))), error="legal unfinished")
 
 
 def counted_points(run):
@@ -2291,7 +2399,7 @@ def main():
     with tempfile.TemporaryDirectory() as folder:
         files(folder)
         run = Runner(os.path.abspath(sys.argv[1]), folder)
-        for part in (judged, settled, built_and_checked, converted, topped, topped_before, ruled, tidied, boarded, widest, from_standard_input, fielded, skipped, words_ruled, archived, served, audited, repairs_listed, compared, explained, explain_rows, paged, annotated, counted_points, on_a_terminal, in_json, lines_unread, put_out, overwritten, hinted, misordered, broken, helped, misused):
+        for part in (judged, settled, built_and_checked, converted, topped, topped_before, ruled, tidied, boarded, widest, from_standard_input, fielded, skipped, words_ruled, archived, served, audited, repairs_listed, compared, explained, explain_rows, paged, annotated, kept_bests, counted_points, on_a_terminal, in_json, lines_unread, put_out, overwritten, hinted, misordered, broken, helped, misused):
             part(run)
         if sys.argv[2:] == ["large"]:
             converted_large(run)

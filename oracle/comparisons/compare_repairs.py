@@ -3,7 +3,7 @@
 The worked records are those of `repair_rows`: the first repair has to be the known one, with its cost, its line and what stands there then. Then as
 many games that were dealt for real have one slip of the pen, and the second judge lists the repairs: those that are told have to be the same, with the
 same costs, as far as both tell them. Each third game has two slips, and the pairs of changes are compared. Of as many short games with few tiles
-all that is told has to be the same, in the same order. A record is passed over if the rule of completion, which is all that the second judge has, leaves
+all that is told has to be the same, in the same order. Of a record with more changes than are tried it has to be told which are not. A record is passed over if the rule of completion, which is all that the second judge has, leaves
 open whether a deal fits with some change.
 """
 import json
@@ -15,7 +15,7 @@ from math import inf
 
 import web
 from chains import TWO_NUMBERS, chain
-from comparing import Differences, compared
+from comparing import Differences, compared, without_amount
 from compare_changes import line_of
 from deals import events_of
 from game_pages import board_read, pictured
@@ -24,7 +24,7 @@ from pairs import pairs
 from repair_rows import CHAINS, LINES, NONE, PHONIES, ROWS, TWO, puts
 from repair_figures import SLIPS, STYLES, TURNS, some_sheet, with_two_slips
 from repair_texts import amount_repair, chain_text, choice, likely_repair, likely_sheet, pairs_text, repair_text, sheet_text, suggested_text, with_numbers
-from repairs import NOTHING, Front, repairs
+from repairs import NOTHING, AnyHands, Front, repairs
 from rules import ENGLISH
 from rules_texts import text_of
 from sheet_slips import of_text
@@ -32,6 +32,7 @@ from sheet_slips import of_text
 MOST = 100
 TWO_CHANGES = "with two changes:\n"
 CHAINED = re.compile("(?m)^with [0-9]+ changes, one after the other:\n")
+UNTRIED = re.compile("(?m)^([0-9]+) of ([0-9]+) changes were not tried, since the record is long: those before line ([0-9]+)$")
 
 
 def told_by(differences, rules, listed, text, number=MOST):
@@ -154,7 +155,7 @@ def likely(differences, events, listed, text, found, two):
     wanted = suggested_text("Likely", repair, events, names) if repair else f"Likely: {sheet.said}\n{sheet_text(sheet)}" if sheet else ""
     differences.seen["likely repairs"] += bool(told)
     differences.expect(told == wanted, text, f"explained {told}", f"second judge {wanted}")
-    other = said[said.index("\nOr: ") + 1 :] if "\nOr: " in said else ""
+    other = "".join(f"{line}\n" for line in without_amount(said.split("\n"))[1])
     amount = None if repair or sheet or ": WrongTotal " not in said.split("\n")[0] else amount_repair(found, events, listed)
     differences.seen["bonuses and penalties"] += bool(other)
     differences.expect(other == (suggested_text("Or", amount, events, names) if amount else ""), text, f"explained {other}", amount)
@@ -326,9 +327,28 @@ def more_slips(differences):
         chained(differences, ENGLISH, listed, made[1], text, names_in(text))
 
 
+def long_ones(differences):
+    """A record with more changes than are tried: those that are told as not tried have to be the ones before the line that is named."""
+    passes = "".join(f">{'AB'[k % 2]}: {('AEINRST', 'DGLOTUW')[k % 2]} - +0 0\n" for k in range(700))
+    text = passes + ">A: QQ - +0 0\n"
+    status, answer = told_by(differences, ENGLISH, {"AT"}, text)
+    said = differences.run("repair", "--rules", "rules", "words", "lexicon", "game").stdout.decode()
+    told = UNTRIED.search(said)
+    places = [it.place for it in Front(ENGLISH, events_of(text), {"AT"}, AnyHands).changes()]
+    before = told and sum(1 for place in places if place < int(told[3]) - 1)
+    differences.expect(told and (int(told[1]), int(told[2])) == (before, len(places)), "a long record", f"told {told}, there are {before} of {len(places)}")
+    good = (status, answer["untried"], answer["tried"], 0 < len(places) - answer["untried"]) == (1, before, len(places) - (before or 0), True)
+    differences.expect(good, "a long record", f"{status}, {answer['tried']} tried, {answer['untried']} not")
+    best = answer["repairs"][0]["line"] if answer["repairs"] else None
+    differences.expect(best == 701, "a long record", f"the first repair is of line {best}")
+    written = differences.run("repair", "--repaired", "out", "--rules", "rules", "words", "lexicon", "game").stdout.decode()
+    differences.expect(written.endswith("not written: it is not known whether another change repairs it\n"), "a long record", written)
+
+
 def main():
     def compare(differences, cases):
         rows(differences)
+        long_ones(differences)
         for number in range(cases):
             case(differences, number) if number % 3 else two_slips(differences)
         for _ in range(cases // 6):
@@ -337,7 +357,7 @@ def main():
             small(differences)
 
     differences, cases = compared(Differences, compare)
-    differences.end(2 * cases + cases // 6 + sum(map(len, (ROWS, NONE, TWO, PHONIES, CHAINS, LINES))), "records")
+    differences.end(1 + 2 * cases + cases // 6 + sum(map(len, (ROWS, NONE, TWO, PHONIES, CHAINS, LINES))), "records")
 
 
 if __name__ == "__main__":

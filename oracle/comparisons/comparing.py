@@ -11,7 +11,7 @@ from best import kinds_told
 from deals import judge_deal, legal_report, settled_ways
 from lexicons import build
 
-NOT_WRITTEN = "not written: first say which it is, the bonus or the penalty after Or: or the wrong number"
+NOT_WRITTEN = "not written: either the bonus or penalty after Or: is missing, or the number is wrong"
 
 
 class Differences:

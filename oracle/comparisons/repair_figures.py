@@ -121,6 +121,21 @@ def on_rack(change):
     return at(lambda event: event.rack and event.kind in TURN, lambda event: replace(event, rack=ordered(change(event.rack))))
 
 
+def is_with_rack(event):
+    """Whether a line states a rack, from which letter tiles are played or known tiles exchanged."""
+    return event.rack and (event.kind == "exchange" or event.kind == "play" and any(it.isupper() for it in event.word))
+
+
+def misread_twice(event):
+    """A line on which one tile is read as another one twice: on the rack and in the word, or on the rack and in the exchange."""
+    if event.kind == "exchange":
+        tile, wrong = choose(event.tiles), choose(KINDS)
+        return replace(with_tiles(event, event.tiles.replace(tile, wrong, 1)), rack=ordered(event.rack.replace(tile, wrong, 1)))
+    place, wrong = choose([k for k, symbol in enumerate(event.word) if symbol.isupper()]), choose(LETTERS)
+    word = event.word[:place] + wrong + event.word[place + 1 :]
+    return replace(event, word=word, rack=ordered(event.rack.replace(event.word[place], wrong, 1)))
+
+
 def copied_wrongly(events):
     """A stated rack that is another one altogether; the true one cannot be known then."""
     made = on_rack(lambda tiles: some_rack(len(tiles)))(events)
@@ -224,6 +239,7 @@ SLIPS = {
     "a withdrawal written as a pass": of_kind("withdraw", lambda it: replace(it, kind="pass")),
     "a pass written as a withdrawal": of_kind("pass", lambda it: replace(it, kind="withdraw")),
     "a tile of a rack misread": on_rack(other_tile),
+    "a tile misread twice on its line": at(is_with_rack, misread_twice),
     "a rack that is another one": copied_wrongly,
     "a line under the other name": at(lambda event: True, lambda it: replace(it, player=1 - it.player)),
     "a line that stands twice": twice,

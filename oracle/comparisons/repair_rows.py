@@ -19,6 +19,7 @@ SMALL = replace(ENGLISH, tiles=Counter("AADEEINORRSTTW"))
 WORDS = "WORD AT RA DT EAT OE"
 WORD, AT, EAT = ">A: AADEORW 8E WORD +16 16\n", ">B: AT 9G AT +9 9\n", ">A: E 9F E.. +5 21\n"
 RETAINS, REST = ">A: AEINRST 8D RETAINS +66 66\n", ">A: (ADEORTW) +22 88\n"
+ZA = ">A: AEINRSZ 8G ZA +22 22\n"
 THREE_PLAYS = replace(ENGLISH, tiles=Counter("AAADEEINORRSTTTW"))
 DOWN, SAT_OUT = ">B: ADEORTW D6 WO.D +8 8\n", ">A: AT J8 .AT +5 71\n>A: (AERT) +8 79\n"
 
@@ -39,6 +40,8 @@ ROWS = [
     (ENGLISH, WORDS, WORD + AT + ">A: - +0 16\n" + EAT, 2, 3, ""),
     (ENGLISH, WORDS, ">A: AABCDDT -AAX +0 0\n", 2, 1, ">A: AABCDDT -AA +0 0\n"),
     (ENGLISH, WORDS, ">A: AABCDDT -X +0 0\n", 3, 1, ">A: AABCDDT -A +0 0\n"),
+    (ENGLISH, WORDS, ">A: AADEXRW 8E WXRD +16 16\n" + AT + EAT, 4, 1, WORD),
+    (ENGLISH, "ZA", ZA + ">B: AABCDDZ -AZ +0 0\n>A: - +0 22\n", 4, 2, ">B: AAABCDD -AA +0 0\n"),
     (ENGLISH, "RETAINS", ">A: AEINRSS 8D RETAINS +66 66\n", 3, 1, RETAINS),
     (SMALL, "RETAINS", RETAINS + ">A: (ADEORTT) +22 88\n", 2, 2, REST),
     (SMALL, "RETAINS", RETAINS + ">A: (EEEEEEE) +22 88\n", 3, 2, REST),
@@ -80,6 +83,8 @@ LINES = [
     (ENGLISH, WORDS, ">A: AABCDDT -AAX +0 0\n", 1),
     (ENGLISH, WORDS, ">A: AABCDDT -X +0 0\n", 5),
     (SMALL, "RETAINS", RETAINS + ">A: (ADEORTT) +22 88\n", 1),
+    (ENGLISH, WORDS, ">A: AADEXRW 8E WXRD +16 16\n" + AT + EAT, 1),
+    (ENGLISH, "ZA", ZA + ">B: AABCDDZ -AZ +0 0\n>A: - +0 22\n", 26),
 ]
 
 

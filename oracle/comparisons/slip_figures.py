@@ -2,6 +2,8 @@
 
 Each sheet is a game that was dealt and played for real, with every rack on its line, and one slip of a known kind. The first line says how many
 sheets of each kind were made; the table, of how many the program told a fault, named the cause first among all that it names, and named it at all.
+A second table is of sheets that `referee repair` mends by one of their lines or by the whole of them: of how many it told a fault, told the cause first, and
+with `--repaired` wrote the sheet, and how many of these sheets are not of the true game.
 """
 import json
 import random
@@ -12,9 +14,12 @@ from collections import Counter
 from dataclasses import replace
 from pathlib import Path
 
+from compare_changes import HEAD
 from dealing import Dealer, line
+from deals import events_of
 from lexicons import build
 from mistakes import moved, with_text
+from repair_figures import record_of
 from rules import ENGLISH, SIDE
 
 choose = random.choice
@@ -61,6 +66,21 @@ def misread(events):
         return None
     square, read = square_name(event, at), event.word[at]
     return with_letter(events, place, at, choose(others)), lambda it: is_reading(it, ("Misread",), square, read)
+
+
+def misread_twice(events):
+    """A tile that was read as another one on the rack and in the word. No fact names such a tile, so the likely repair has to."""
+    place = choose(plays_of(events))
+    event = events[place]
+    at = choose([k for k, it in enumerate(event.word) if it.isupper()] or [None])
+    capitals = Counter(it for it in event.word if it.isupper())
+    if at is None or capitals - Counter(event.rack):
+        return None
+    tile, wrong = event.word[at], choose(LETTERS)
+    changed = with_letter(events, place, at, wrong)
+    changed[place] = replace(changed[place], rack=event.rack.replace(tile, wrong, 1))
+    true = {"name": "Likely", "slip": "other tile on rack and in word", "line": place + 1}
+    return (changed, lambda it: true.items() <= it.items()) if wrong != tile else None
 
 
 def swapped(events, blank):
@@ -153,7 +173,37 @@ SLIPS = {
     "a line that stands twice": twice,
     "two lines the wrong way round": wrong_way,
     "a line under the other name": others,
+    "a tile read as another one on the rack too": misread_twice,
 }
+
+
+def without_place(events):
+    """A play whose place is not written: the texts of the sheet and of the true one, and how the cause is told."""
+    place = choose(plays_of(events))
+    lines = list(map(line, events))
+    there = lines[place].split(" ")
+    at = next(k for k, it in enumerate(there) if k and any(byte.isdigit() for byte in it))
+    wrong = " ".join(there[:at] + there[at + 1 :])
+    return "".join([*lines[:place], wrong, *lines[place + 1 :]]), "".join(lines), f"line {place + 1}: the place is missing: {there[at]}"
+
+
+def marked_note(events):
+    """A note that begins with > as an event does."""
+    place = random.randrange(len(events))
+    lines = list(map(line, events))
+    front, back = "".join(lines[:place]), "".join(lines[place:])
+    return f"{front}> a word was challenged\n{back}", f"{front} a word was challenged\n{back}", f"line {place + 1}: > should not be there"
+
+
+def capital_blanks(events):
+    """Blanks that are written as capitals on all lines; there are two such plays."""
+    changed = [with_text(replace(it, word=it.word.upper())) if it.kind == "play" else it for it in events]
+    if sum(one != other for one, other in zip(events, changed)) < 2:
+        return None
+    return "".join(map(line, changed)), "".join(map(line, events)), "all blanks are written as capitals"
+
+
+MENDED = {"a play without its place": without_place, "a note with a > in front": marked_note, "blanks written as capitals throughout": capital_blanks}
 
 
 def some_sheet(slip):
@@ -168,13 +218,44 @@ def some_sheet(slip):
 
 
 def explained(program, folder, events, listed):
-    """The facts that the program gives of a sheet; none where it finds no fault."""
+    """The facts that the program gives of a sheet, and its likely repair as one more; none where it finds no fault."""
     Path(folder, "words").write_text("\n".join(sorted(listed)))
     Path(folder, "lexicon").write_bytes(build(listed))
     Path(folder, "game").write_text("".join(map(line, events)))
     ran = subprocess.run([program, "explain", "--json", "words", "lexicon", "game"], cwd=folder, capture_output=True, check=False, timeout=60)
     said = json.loads(ran.stdout)
-    return said["facts"] if said["verdict"] == "illegal" else None
+    likely = [said["likely"] | {"name": "Likely"}] if said["likely"] else []
+    return said["facts"] + likely if said["verdict"] == "illegal" else None
+
+
+def repaired(program, folder, text, listed):
+    """The lines that `repair` prints, and the sheet that it writes; none if it writes none."""
+    Path(folder, "words").write_text("\n".join(sorted(listed)))
+    Path(folder, "lexicon").write_bytes(build(listed))
+    Path(folder, "game").write_text(text)
+    Path(folder, "out").unlink(missing_ok=True)
+    words = [program, "repair", "--repaired", "out", "words", "lexicon", "game"]
+    told = subprocess.run(words, cwd=folder, capture_output=True, check=False, timeout=60).stdout.decode().splitlines()
+    return told, Path(folder, "out").read_text() if Path(folder, "out").exists() else None
+
+
+def is_same_game(sheet, other, listed):
+    """Whether two sheets have the same game, however a tile that lay on the board is written."""
+    return sheet == other or record_of(events_of(HEAD + sheet), listed) == record_of(events_of(HEAD + other), listed)
+
+
+def mended_rows(program, folder, sheets):
+    print("| slip | a fault is told | the cause comes first | a sheet is written | it is another game |\n|---|---|---|---|---|")
+    for name, slip in MENDED.items():
+        seen = Counter()
+        for _ in range(sheets):
+            wrong, true, cause, listed = some_sheet(slip)
+            told, written = repaired(program, folder, wrong, listed)
+            seen["told"] += not told[0].startswith("legal")
+            seen["first"] += told[1:2] != [] and told[1].split(" (or ")[0] == cause
+            seen["written"] += written is not None
+            seen["other"] += written is not None and not is_same_game(written, true, listed)
+        print(f"| {name} | {seen['told']} | {seen['first']} | {seen['written']} | {seen['other']} |")
 
 
 def main():
@@ -193,6 +274,8 @@ def main():
                 seen["first"] += bool(hints) and is_cause(hints[0])
                 seen["named"] += any(is_cause(it) for it in hints)
             print(f"| {name} | {seen['told']} | {seen['first']} | {seen['named']} |")
+        print()
+        mended_rows(program, folder, sheets)
 
 
 if __name__ == "__main__":

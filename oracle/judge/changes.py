@@ -139,6 +139,20 @@ def racks(event):
         yield 5, replace(event, rack="")
 
 
+def misread_twice(event):
+    """One tile that is misread on the stated rack and in what was done with it: a letter of the word, or a tile of the exchange."""
+    if event.kind == "play":
+        for k, tile in enumerate(event.word):
+            for right in LETTERS if tile.isupper() and tile in event.rack else "":
+                if right != tile:
+                    yield 4, replace(event, word=event.word[:k] + right + event.word[k + 1 :], rack=ordered(without(event.rack, tile) + right))
+    if event.kind == "exchange":
+        for tile in KINDS:
+            for right in KINDS if tile in event.rack and tile in event.tiles else "":
+                if right != tile:
+                    yield 4, replace(event, tiles=ordered(without(event.tiles, tile) + right), rack=ordered(without(event.rack, tile) + right))
+
+
 def lines(events, place):
     """What may be wrong with any line: how many events, the weight and what stands there."""
     event = events[place]
@@ -191,4 +205,5 @@ def changes_at(game, events, place):
         yield from ((1, weight, [event]) for weight, event in kinds(game, events, place))
         yield from ((1, weight, [event]) for weight, event in racks(events[place]))
         yield from lines(events, place)
+        yield from ((1, weight, [event]) for weight, event in misread_twice(events[place]))
     yield from ((0, weight, [event]) for weight, event in missing(game, events, place))

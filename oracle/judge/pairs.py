@@ -8,11 +8,10 @@ from itertools import islice
 from math import inf
 
 from boards import Refused
-from repairs import UNLISTED_WORD, WRONG_NUMBER, AnyHands, Change, Front, Repair, remembered, repairs, repairs_below, wrong_numbers
+from repairs import UNLISTED_WORD, WORDS_OF_SLIPS, WRONG_NUMBER, AnyHands, Change, Front, Repair, remembered, repairs, repairs_below, wrong_numbers
 from rules import ENGLISH
 
 HEADS = 3
-WORDS_OF_SLIPS = 3  # if more words are not in the list, they are phonies, or of another list
 
 
 @dataclass

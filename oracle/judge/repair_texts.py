@@ -3,10 +3,9 @@ from collections import Counter
 from dataclasses import replace
 
 from changes import ordered
-from pairs import WORDS_OF_SLIPS
-from repairs import NOTHING, WRONG_NUMBER, Front, lines, many_tried, repairs
+from repairs import NOTHING, WORDS_OF_SLIPS, WRONG_NUMBER, Front, lines, many_tried, repairs
 from rules import ENGLISH
-from sheet_slips import is_first, of_text
+from sheet_slips import alike, is_first, of_bad_text, of_text
 
 LINES = 10
 
@@ -63,10 +62,19 @@ def which_blank(written, right):
     return f": the {letter.upper()} on {row + 1}{chr(65 + column)} is {'a' if letter.islower() else 'not a'} blank"
 
 
+def what_is_misread(written, right, nicks):
+    """What should stand on a line, of which one tile is misread on the rack too."""
+    wrong, true = Counter(written.rack), Counter(right.rack)
+    told = what_is_other(replace(written, rack=right.rack), right, nicks)
+    return f"{told}: the {ordered(wrong - true)} on the rack is {ordered(true - wrong)} too"
+
+
 def what_is_other(written, right, nicks):
     """What should stand on a line, and what stands there."""
     if written.player != right.player:
         return f"{nicks[right.player]}'s line, not {nicks[written.player]}'s"
+    if ordered(written.rack) != ordered(right.rack) and (written.word, written.tiles) != (right.word, right.tiles):
+        return what_is_misread(written, right, nicks)
     if ordered(written.rack) != ordered(right.rack):
         return f"the rack is {ordered(right.rack) or 'another one'}, not {ordered(written.rack) or 'another one'}"
     if written.kind == "play" and written.word != right.word and (written.at, written.direction) != (right.at, right.direction):
@@ -295,6 +303,15 @@ def repair_text(events, listed, rules=ENGLISH, nicks="AB", number=LINES, game=No
     text = "".join(it for _, _, it in sorted(told))
     if not any(it.dealt for it in found):
         known = all(it.dealt for it in found)
+        but = ", but for letters that merely trade places" if alone and alone.unlisted > WORDS_OF_SLIPS else ""
         helps = ("leaves fewer errors", "is known to leave fewer errors") if alone else ("makes it a game", "is known to make it a game")
-        text += f"none of {many_tried(events, listed, rules)} single changes {helps[not known]}\n"
+        text += f"none of {many_tried(events, listed, rules)} single changes {helps[not known]}{but}\n"
+    return text
+
+
+def bad_record_text(game, listed, rules=ENGLISH, number=LINES):
+    """All lines behind the verdict line of a text that is not a record."""
+    text = ""
+    for sheet, others in list(alike(of_bad_text(game, listed, rules)))[:number]:
+        text += sheet.said + others + ("\n" if sheet.dealt else " (no deal was found)\n") + sheet_text(sheet)
     return text

@@ -17,6 +17,7 @@ from play_changes import Finder
 from rules import ENGLISH
 
 WRONG_NUMBER, UNLISTED_WORD = 5, 3
+WORDS_OF_SLIPS = 3  # if more words are not in the list, they are phonies, or of another list
 
 
 @dataclass
@@ -259,7 +260,32 @@ def repairs(events, listed, rules=ENGLISH):
     front = Front(rules, events, listed)
     most = most_left(front)
     found = repairs_below(front, most)
-    return found if most <= 1 or has_likely(found) else repairs_below(front, most, Finder(events, listed, rules))
+    if most > 1 and not has_likely(found):
+        found = repairs_below(front, most, Finder(events, listed, rules))
+    nothing = front.with_change(NOTHING) if most < inf else None
+    return [it for it in found if not (it.dealt and nothing and avoids_word(it, nothing, events))]
+
+
+def trade_places(change, events):
+    """Whether two neighbours in the text of a play are in each other's place."""
+    if change.replaced != 1 or len(change.there) != 1 or not events[change.place].kind == change.there[0].kind == "play":
+        return False
+    wrong, right = events[change.place], change.there[0]
+    if (wrong.at, wrong.direction, len(wrong.word)) != (right.at, right.direction, len(right.word)):
+        return False
+    places = [k for k, symbol in enumerate(wrong.word) if symbol != right.word[k]]
+    return len(places) == 2 and places[1] == places[0] + 1 and right.word == twisted(wrong.word, places[0])
+
+
+def twisted(word, place):
+    """A text with the symbol at a place and the next one in each other's place."""
+    return word[:place] + word[place + 1] + word[place] + word[place + 2 :]
+
+
+def avoids_word(repair, nothing, events):
+    """Whether more than three words are not in the list with only the numbers corrected, and all that a repair does is to avoid one by letters that trade
+    places."""
+    return nothing.unlisted > WORDS_OF_SLIPS and repair.wrong >= nothing.wrong and trade_places(repair.change, events)
 
 
 def most_left(front):

@@ -1,13 +1,18 @@
-"""Slips that run through a whole sheet, by the second judge: a line that is not read is an event, or the same slip is on each line from one on."""
+"""Slips that run through a whole sheet, by the second judge: a line that is not read is an event, or the same slip is on each line from one on; and what is
+wrong with the line for which a text is not a record."""
+import re
+from collections import Counter
 from dataclasses import dataclass, replace
+from itertools import groupby
 
 from deals import events_of
-from records import Fault
+from records import Fault, read
 from repairs import NOTHING, AnyHands, Change, Front, Repair, remembered
 from rules import ENGLISH, SIDE
 from unread import lines_in, unread
 
-MOST_LINES, MOST_PLACES, FEWER_THAN, AT_LEAST = 16, 60, 10, 3
+MOST_LINES, MOST_PLACES, FEWER_THAN, AT_LEAST, AT_LEAST_BLANKS = 16, 60, 10, 3, 2
+MOST_BYTES, MOST_NAMED = 262_144, 3
 MARK = b"\xef\xbb\xbf"
 OFF = {
     (0, -1): "are one column too far right",
@@ -42,37 +47,64 @@ def on_board(square):
 
 
 def turned(event):
-    return replace(event, direction=event.direction[::-1])
+    return replace(event, direction=event.direction[::-1]) if is_play(event) else event
 
 
 def in_other_case(event):
-    return replace(event, word=event.word.swapcase())
+    return replace(event, word=event.word.swapcase()) if is_play(event) else event
 
 
 def moved(by):
-    return lambda event: replace(event, at=(event.at[0] + by[0], event.at[1] + by[1]))
+    return lambda event: replace(event, at=(event.at[0] + by[0], event.at[1] + by[1])) if is_play(event) else event
+
+
+def with_blanks(event):
+    """A play in whose word each capital is a small letter for which no tile of the stated rack is left, but a blank."""
+    left, word = Counter(event.rack), ""
+    if event.kind != "play" or not event.rack:
+        return event
+    for symbol in event.word:
+        if symbol.isupper() and not left[symbol] and left["?"]:
+            symbol = symbol.lower()
+        tile = "?" if symbol.islower() else symbol
+        left[tile] = max(0, left[tile] - 1)
+        word += symbol
+    return replace(event, word=word)
+
+
+def is_play(event):
+    return event.kind == "play"
+
+
+def is_turn(event):
+    return event.kind in ("play", "pass", "exchange", "unknown")
+
+
+def has_blank(event):
+    return is_play(event) and any(map(str.islower, event.word))
 
 
 def kinds():
-    """The slips that may run through a sheet: what is said of them, the events on which they may begin, those that they change, and an event without them."""
-    plays, turns, each = {"play"}, {"play", "pass", "exchange", "unknown"}, None
-    yield "all places{} have row and column interchanged", plays, plays, turned
+    """The slips that may run through a sheet: what is said of them, the events on which they may begin, on how many of these at least, which events without
+    them are other ones, and an event without them."""
+    yield "all places{} have row and column interchanged", is_play, AT_LEAST, is_play, turned
     for by, off in OFF.items():
-        yield "all places{} " + off, plays, plays, moved(by)
-    yield "all words{} have small letters and capitals interchanged", plays, plays, in_other_case
-    yield "all lines{} have the name of the other player", turns, each, lambda event: replace(event, player=1 - event.player)
+        yield "all places{} " + off, is_play, AT_LEAST, is_play, moved(by)
+    yield "all words{} have small letters and capitals interchanged", is_play, AT_LEAST, is_play, in_other_case
+    yield "all blanks{} are written as capitals", lambda event: with_blanks(event) != event, AT_LEAST_BLANKS, has_blank, with_blanks
+    yield "all lines{} have the name of the other player", is_turn, AT_LEAST, lambda _: True, lambda event: replace(event, player=1 - event.player)
 
 
 def running(own, places):
     """The slips that run through a sheet from one of its first events on: what is said of each, its place, and the events from there on without it."""
     for place in range(min(places, MOST_PLACES, len(own))):
-        for said, begins, changed, without in kinds():
+        for said, begins, least, changed, without in kinds():
             there = [event for _, event in own[place:]]
-            if there[0].kind not in begins or sum(it.kind in begins for it in there) < AT_LEAST:
+            if not begins(there[0]) or sum(map(begins, there)) < least:
                 continue
-            right = [without(it) if changed is None or it.kind in changed else it for it in there]
+            right = [without(it) if changed(without(it)) else it for it in there]
             if all(on_board(it.at) for it in right if it.kind == "play"):
-                before = any(changed is None or it.kind in changed for _, it in own[:place])
+                before = any(changed(it) for _, it in own[:place])
                 yield said.format(f" from line {own[place][0]} on" if before else ""), place, right
 
 
@@ -142,3 +174,92 @@ def is_first(sheets, found, two, alone, margin):
     first = sheets[0]
     rivals = [it for it in found if not (says_less(first, it) and first.cost <= it.cost)]
     return all(first.cost + margin <= it.cost for it in [*rivals, *two[:1], *sheets[1:2], *([alone] if alone else [])])
+
+
+# ---- a line that no record can have
+
+
+def with_lines(game, number, change):
+    """A text with one of its lines changed; a CR at its end stays."""
+    lines = game.removeprefix(MARK).split(b"\n")
+    line = lines[number - 1]
+    bare = line.removesuffix(b"\r")
+    lines[number - 1] = change(bare) + line[len(bare) :]
+    return (MARK if game.startswith(MARK) else b"") + b"\n".join(lines)
+
+
+def may_be_note(line):
+    """Whether a line that begins with > has nothing of which numbers, places and codes are made, or begins with two."""
+    return not any(byte in b"0123456789-(" for byte in line) or line.startswith(b">>")
+
+
+def put_in(place):
+    """Puts a place before the third field from the end of what is behind the first colon of a line."""
+
+    def change(line):
+        nick, colon, behind = line.partition(b":")
+        found = re.fullmatch(rb"((?:.*[ \t])?)([^ \t]+[ \t]+[^ \t]+[ \t]+[^ \t]+[ \t]*)", behind, re.DOTALL)
+        return nick + colon + found[1] + place + b" " + found[2] if found else line
+
+    return change
+
+
+def bad_lines(game, number):
+    """What may be wrong with the line of a text that has this number, in words, in short, and the text without that."""
+    lines = game.removeprefix(MARK).split(b"\n")
+    line = lines[number - 1].removesuffix(b"\r") if 0 < number <= len(lines) else b""
+    if len(game) > MOST_BYTES or not line.startswith(b">"):
+        return
+    if may_be_note(line):
+        yield f"line {number}: > should not be there", "without its >", with_lines(game, number, lambda it: it[1:])
+    for down in (False, True):
+        for row in range(SIDE):
+            for column in range(SIDE):
+                place = f"{chr(65 + column)}{row + 1}" if down else f"{row + 1}{chr(65 + column)}"
+                yield f"line {number}: the place is missing: {place}", place, with_lines(game, number, put_in(place.encode()))
+
+
+@dataclass
+class LineRepair:
+    """What is wrong with a line, in words and in short, and the record without it."""
+
+    sheet: SheetRepair
+    short: str
+
+    @property
+    def cost(self):
+        return self.sheet.cost
+
+
+def of_bad_text(game, listed, rules=ENGLISH):
+    """What repairs a text that is not a record because of one of its lines: those that cost least first."""
+    try:
+        read(game)
+    except Fault as fault:
+        number = fault.line
+    found = []
+    for said, short, text in bad_lines(game, number):
+        try:
+            own = numbered(text)
+        except Fault:
+            continue
+        front = Front(rules, [event for _, event in own], listed)
+        repair = front.with_change(NOTHING)
+        if repair and repair.wrong + repair.unlisted < FEWER_THAN:
+            settled = front.dealt(repair)
+            found += [LineRepair(SheetRepair(said, settled, own, number), short)] if settled else []
+    return sorted(found, key=lambda it: it.cost)
+
+
+def alike(found):
+    """Repairs in lines, each with how the others are told that cost the same."""
+    for _, same in groupby(found, key=lambda it: it.cost):
+        first, *others = same
+        named = ", ".join(it.short for it in others[:MOST_NAMED])
+        more = f" and {len(others) - MOST_NAMED} more" if len(others) > MOST_NAMED else ""
+        yield first.sheet, f" (or {named}{more})" if others else ""
+
+
+def is_written(found, margin):
+    """Whether the sheet with the first of the repairs is to be written."""
+    return bool(found) and found[0].sheet.dealt and not found[0].sheet.repair.wrong and all(found[0].cost + margin <= it.cost for it in found[1:2])

@@ -10,6 +10,7 @@ use Rattle.record_changes.specs.declared.slips.Slip.{Slip}
 use Rattle.change_lists.specs.Laying.{laying_slips}
 use Rattle.change_lists.specs.Rests.{rest_tiles, rest_for}
 use Rattle.change_lists.specs.Lines.{kind_slips, board_slips, rack_slips, line_slips, event_slips}
+use Rattle.change_lists.specs.Misreadings.{misread_slips}
 use Rattle.change_lists.specs.MissingLines.{missing_slips}
 use Rattle.change_lists.specs.Changes.{slips_of_event, slips_by}
 use Rattle.change_lists.specs.Laws.{SlipsAreByBoard}
@@ -29,7 +30,7 @@ event_alone : (rules : Rules) (s t : State) (events : List Event) (place : ℕ) 
 unfolding event_slips
 event_alone rules s t events place None same = refl
 event_alone rules s t events place (Some e) same =
-    ap (λ (xs : List Slip). kind_slips rules e e.kind ++ xs ++ rack_slips e ++ line_slips events place e) (board_alone rules s t (take place events) (drop (place + 1) events) e.kind same)
+    ap (λ (xs : List Slip). kind_slips rules e e.kind ++ xs ++ rack_slips e ++ line_slips events place e ++ misread_slips e) (board_alone rules s t (take place events) (drop (place + 1) events) e.kind same)
 
 missing_alone : (rules : Rules) (s t : State) (events : List Event) (place : ℕ) → s.board ≡ t.board → s.out ≡ t.out → s.complete ≡ t.complete → missing_slips rules s events place ≡ missing_slips rules t events place
 unfolding missing_slips

@@ -29,6 +29,7 @@ use Rattle.change_lists.specs.Spellings.{symbol_slips, twisted_pair, other_symbo
 use Rattle.change_lists.specs.Tiles.{other_tiles, extra_tiles, missing_tiles, tile_slips}
 use Rattle.change_lists.specs.Amounts.{other_bonuses, other_penalties, other_numbers, exchanges}
 use Rattle.change_lists.specs.Laying.{laid_over}
+use Rattle.change_lists.specs.Misreadings.{misread_word, misread_exchange, misread_slips}
 use Rattle.change_lists.specs.Lines.{extra_line, swapped_lines, event_slips}
 use Rattle.change_lists.specs.MissingLines.{missing_exchanges, missing_penalties, missing_slips}
 use Rattle.change_lists.specs.Rests.{rest_tiles}
@@ -86,6 +87,20 @@ twisted : Agree (
     ∷ [])
 unfolding twisted_symbols twisted_pair lists_below letter_at
 twisted = refl
+
+-- the number of tiles that may be misread twice: 25 letters for each letter of the word that the rack has too, and not for a dot or a blank; 26 tiles for each
+-- kind on the rack that is exchanged; none on a line that states no rack
+misread_twice : Agree (
+    (length (misread_word (tiles (codes "AENNTUV")) (word (codes "TANNEV"))), 150)
+    ∷ (length (misread_word (tiles (codes "AT?")) (word (codes ".aTS"))), 25)
+    ∷ (length (misread_word (tiles (codes "AT?")) (word (codes "t.a"))), 0)
+    ∷ (length (misread_exchange (tiles (codes "AABT?")) (tiles (codes "AA?Z"))), 52)
+    ∷ (length (misread_slips (record pass { rack = Some (tiles (codes "AB")); kind = kind.Exchange (tiles (codes "A")) })), 26)
+    ∷ (length (misread_slips (record pass { kind = kind.Exchange (tiles (codes "A")) })), 0)
+    ∷ (length (misread_slips (record pass { rack = Some (tiles (codes "AB")); kind = kind.ExchangeUnknown 1 })), 0)
+    ∷ [])
+unfolding misread_word misread_exchange lists_below letter_at counted
+misread_twice = refl
 
 -- tiles laid over a line whose second and third squares have a tile
 laid : Agree (

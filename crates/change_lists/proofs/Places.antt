@@ -8,11 +8,15 @@ use Rattle.gcg_read.specs.declared.events.Event.{Event}
 use Rattle.game_turns.specs.Tallies.{State}
 use Rattle.record_changes.specs.declared.slips.Slip.{Slip}
 use Rattle.change_lists.specs.Spellings.{symbol_slips, slips_of_symbol, slips_at_symbol, twisted_pair, twisted_two, twisted_at}
+use Rattle.change_lists.specs.Misreadings.{misread_symbol, misread_at}
 use Rattle.change_lists.specs.Lines.{event_slips}
 use Rattle.change_lists.specs.Changes.{slips_of_event}
 
 pub of_symbol : (word : List Symbol) (place : ℕ) (d : Symbol) → place < length word → symbol_slips place (get_or word place d) ≡ slips_at_symbol word place
 of_symbol word place d within = sym (ap (slips_of_symbol place) (slice_get-get_or word place d within))
+
+pub of_misread : (rack : List ℕ) (word : List Symbol) (place : ℕ) (d : Symbol) → place < length word → misread_symbol rack place (Some (get_or word place d)) ≡ misread_at rack word place
+of_misread rack word place d within = sym (ap (misread_symbol rack place) (slice_get-get_or word place d within))
 
 pub of_two : (word : List Symbol) (place : ℕ) (d e : Symbol) → place < length word → place + 1 < length word
     → twisted_pair place (get_or word place d) (get_or word (place + 1) e) ≡ twisted_at word place

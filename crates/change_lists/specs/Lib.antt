@@ -5,6 +5,7 @@ pub mod Tiles
 pub mod Amounts
 pub mod Laying
 pub mod Rests
+pub mod Misreadings
 pub mod Lines
 pub mod MissingLines
 pub mod Changes

@@ -18,6 +18,7 @@ use Rattle.change_lists.specs.Tiles.{other_tiles, extra_tiles, tile_slips}
 use Rattle.change_lists.specs.Amounts.{other_bonuses, other_penalties, other_numbers, exchanges}
 use Rattle.change_lists.specs.Laying.{laying_slips}
 use Rattle.change_lists.specs.Rests.{rest_tiles, rest_for}
+use Rattle.change_lists.specs.Misreadings.{misread_slips}
 
 -- what may be wrong with a play, judged only by its line
 abbrev pub play_slips : (at : ℕ) → (word : List Symbol) → List Slip
@@ -99,3 +100,4 @@ line_slips events place e = slip.OtherPlayer ∷ extra_line e (event_before even
 unfoldable pub event_slips : Rules → State → (events : List Event) → (place : ℕ) → Event → List Slip
 event_slips rules s events place e =
     kind_slips rules e e.kind ++ board_slips rules s (take place events) (drop (place + 1) events) e.kind ++ rack_slips e ++ line_slips events place e
+    ++ misread_slips e

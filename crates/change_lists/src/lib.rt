@@ -8,6 +8,7 @@ mod laws;
 mod laying;
 mod lines;
 mod listing;
+mod misreadings;
 mod missing;
 mod positions;
 mod rests;

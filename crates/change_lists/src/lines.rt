@@ -8,6 +8,7 @@ ghost use Rattle.change_lists.specs.Lines.{play_slips, pass_slips, unknown_slips
 use crate::adding::add;
 use crate::amounts::{push_bonuses, push_exchanges, push_numbers, push_penalties};
 use crate::laying::push_laying;
+use crate::misreadings::push_misreadings;
 use crate::positions::push_positions;
 use crate::rests::{push_rest, rest_tiles};
 use crate::spellings::push_spellings;
@@ -232,5 +233,6 @@ pub(crate) fn push_event(
     push_kind(slips, rules, event)?;
     push_by_board(slips, rules, game, events, place, &event.kind)?;
     push_rack(slips, event)?;
-    push_line(slips, events, place, event)
+    push_line(slips, events, place, event)?;
+    push_misreadings(slips, event)
 }

@@ -9,7 +9,7 @@ use ref_tiles::{Counts, KINDS, Kind};
 use std::alloc::AllocError;
 
 /// Whether a tile of this kind is among the tiles.
-fn has(counts: &Counts, tile: Kind) -> bool
+pub(crate) fn has(counts: &Counts, tile: Kind) -> bool
     ensures { result ≡ has counts.now tile }
 {
     counts.count(tile) > 0

@@ -1,3 +1,2 @@
 pub mod BestLaws
-pub mod SameBoards
 pub mod Tellings

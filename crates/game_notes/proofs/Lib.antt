@@ -1,2 +1,4 @@
 pub mod FirstPlays
 pub mod FollowLaws
+pub mod SameBoards
+pub mod LatestLaws

@@ -1,3 +1,4 @@
 pub mod Keeping
 pub mod Tops
 pub mod Following
+pub mod Latest

@@ -2,6 +2,8 @@
 use Rattle.std.specs.Prelude.{◌≡◌, ⊤, ◌≤◌, Bool, true, false, length, Option, Some, None}
 use Rattle.record_changes.specs.declared.slips.Slip.{Slip}
 use Rattle.record_changes.specs.declared.slips.Slip.TheVariants as slip
+use Rattle.record_changes.specs.declared.slips.Misread.{Misread}
+use Rattle.record_changes.specs.declared.slips.Misread.TheVariants as misread
 use Rattle.record_changes.specs.declared.slips.MissingLine.{MissingLine}
 use Rattle.record_changes.specs.declared.slips.MissingLine.TheVariants as line
 use Rattle.record_repairs.specs.declared.repair.Repair.{Repair}
@@ -14,11 +16,17 @@ abbrev pub is_missing_play : MissingLine → Bool
 is_missing_play (line.Play player play) = true
 is_missing_play other = false
 
+-- whether a tile that is misread twice is one of the word of a play
+abbrev pub is_in_word : Misread → Bool
+is_in_word (misread.Played place written right) = true
+is_in_word (misread.Exchanged written right) = false
+
 -- whether a slip is one of a play: of its position, of its text or of the whole play; or whether a play is missing
 abbrev pub is_of_play : Slip → Bool
 is_of_play (slip.Position s) = true
 is_of_play (slip.Spelling s) = true
 is_of_play (slip.Replayed play) = true
+is_of_play (slip.Misread m) = is_in_word m
 is_of_play (slip.Missing m) = is_missing_play m
 is_of_play other = false
 

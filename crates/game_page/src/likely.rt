@@ -1,11 +1,11 @@
 //! The likely repair of a faulty record, as its page shows it.
 ghost use Rattle.std.specs.{Prelude.{◌≡◌}, Option.{option_copied}};
-ghost use Rattle.game_page.specs.Likely.{is_missing_play, is_of_play, IsBoardOf, IsLikelyShown};
+ghost use Rattle.game_page.specs.Likely.{is_missing_play, is_in_word, is_of_play, IsBoardOf, IsLikelyShown};
 
 use crate::boards::push_board;
 use crate::showing::Shown;
 use page_pieces::{PageText, Piece};
-use record_changes::{MissingLine, Slip};
+use record_changes::{Misread, MissingLine, Slip};
 use record_repairs::Repair;
 use score_sheets::{Picture, shown_at};
 use std::alloc::AllocError;
@@ -27,12 +27,23 @@ fn is_missing_play(line: &MissingLine) -> bool
     }
 }
 
+/// Whether a tile that is misread twice is one of the word of a play.
+fn is_in_word(slip: &Misread) -> bool
+    ensures { result ≡ is_in_word slip.now }
+{
+    match slip {
+        Misread::Played { .. } => true,
+        Misread::Exchanged { .. } => false,
+    }
+}
+
 /// Whether a slip is one of a play: of its position, of its text or of the whole play; or whether a play is missing.
 fn is_of_play(slip: &Slip) -> bool
     ensures { result ≡ is_of_play slip.now }
 {
     match slip {
         Slip::Position(_) | Slip::Spelling(_) | Slip::Replayed(_) => true,
+        Slip::Misread(slip) => is_in_word(slip),
         Slip::Missing(line) => is_missing_play(line),
         _ => false,
     }

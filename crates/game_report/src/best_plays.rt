@@ -4,10 +4,10 @@ ghost use Rattle.ref_play.specs.{Legality.{IsLegal}, Notations.{notation_of}, Be
 ghost use Rattle.game_turns.specs.{Machines.{state_of}, Passing.{rules_in}};
 ghost use Rattle.lex_check.specs.Pairs.{list_in};
 ghost use Rattle.game_report.specs.{Beside.{StandsBeside}, BestPlays.{is_judged, full_rack, notation_text, best_text, TellsByRack, TellsBest, Appends}};
-ghost use Rattle.game_notes.specs.Following.{board_of, Follows};
+ghost use Rattle.game_notes.specs.{Following.{board_of, Follows}, Latest.{AreBests}};
 
 use decimal_text::push_number;
-use game_notes::Follow;
+use game_notes::{Follow, LatestBests};
 use game_turns::{Machine, Passed};
 use gcg_read::{Event, EventKind, Seat};
 use gcg_write::play_text;
@@ -64,12 +64,15 @@ fn push_best_play(
     rules: &Rules,
     pair: &Checked<'_>,
     follow: &Follow,
+    latest: &mut LatestBests,
     rack: &Counts,
 ) -> Result<(), AllocError>
-    requires { Follows rules.now (list_in pair.now) follow.now }
-    ensures { OnOk result (Appends (TellsByRack rules.now (list_in pair.now) (board_of follow.now) (Some rack.now)) text.old.items text.new.items) }
+    requires follows { Follows rules.now (list_in pair.now) follow.now }
+    requires latest { AreBests rules.now (list_in pair.now) latest.old }
+    ensures best { OnOk result (Appends (TellsByRack rules.now (list_in pair.now) (board_of follow.now) (Some rack.now)) text.old.items text.new.items) }
+    ensures latest { AreBests rules.now (list_in pair.now) latest.new }
 {
-    match follow.annotate(rules, pair, rack) {
+    match latest.best(follow, rules, pair, rack) {
         Some((play, score)) => {
             text.extend_from_slice(b" best ")?;
             push_scored(text, follow.board(), &play, score)
@@ -78,24 +81,28 @@ fn push_best_play(
     }
 }
 
-/// Appends what the line of an event says of the best play; `machine` is before the event, and `follow` has its board.
+/// Appends what the line of an event says of the best play; `machine` is before the event, and `follow` has its board. It searches only if the best play
+/// of the board and the rack is not one of the latest.
 pub fn push_best(
     text: &mut Vec<u8>,
     passed: &Passed<'_>,
     pair: &Checked<'_>,
     machine: &Machine,
     follow: &Follow,
+    latest: &mut LatestBests,
     event: &Event,
 ) -> Result<(), AllocError>
-    requires { StandsBeside (rules_in passed.now) (list_in pair.now) (state_of machine.now) follow.now }
-    ensures { OnOk result (Appends (TellsBest (rules_in passed.now) (list_in pair.now) (state_of machine.now) event.now)
+    requires stands { StandsBeside (rules_in passed.now) (list_in pair.now) (state_of machine.now) follow.now }
+    requires latest { AreBests (rules_in passed.now) (list_in pair.now) latest.old }
+    ensures best { OnOk result (Appends (TellsBest (rules_in passed.now) (list_in pair.now) (state_of machine.now) event.now)
         text.old.items text.new.items) }
+    ensures latest { AreBests (rules_in passed.now) (list_in pair.now) latest.new }
 {
     if !is_judged(&event.kind, machine.out()) {
         return Ok(());
     }
     match full_rack(machine, event) {
-        Some(rack) => push_best_play(text, passed.rules(), pair, follow, &rack),
+        Some(rack) => push_best_play(text, passed.rules(), pair, follow, latest, &rack),
         None => text.extend_from_slice(b" best -"),
     }
 }

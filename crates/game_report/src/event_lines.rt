@@ -3,6 +3,7 @@ ghost use Rattle.std.specs.Prelude.{◌≡◌, ◌<◌, ◌∷◌, ◌++◌, ◌
 ghost use Rattle.ref_play.specs.Words.{items_of};
 ghost use Rattle.game_turns.specs.Passing.{rules_in, record_in};
 ghost use Rattle.lex_check.specs.Pairs.{list_in};
+ghost use Rattle.game_notes.specs.Latest.{AreBests};
 ghost use Rattle.game_report.specs.BestPlays.{Appends};
 ghost use Rattle.game_report.specs.Beside.{StandAt};
 ghost use Rattle.game_report.specs.EventLines.{unlisted_word, unlisted_text, AreEventLines, IsEventLine};
@@ -10,7 +11,7 @@ ghost use Rattle.game_report.specs.EventLines.{unlisted_word, unlisted_text, Are
 use crate::best_plays::push_best;
 use crate::replaying::follow_event;
 use decimal_text::push_number;
-use game_notes::Follow;
+use game_notes::{Follow, LatestBests};
 use game_turns::{Machine, Passed, all_listed};
 use gcg_write::event_text;
 use lex_check::Checked;
@@ -64,11 +65,14 @@ fn push_event_line(
     pair: &Checked<'_>,
     machine: &mut Machine,
     follow: &mut Follow,
+    latest: &mut LatestBests,
     place: usize,
 ) -> Result<(), AllocError>
     requires place { place < length (record_in passed.now).events }
     requires stand { StandAt (rules_in passed.now) (list_in pair.now) (record_in passed.now).events place machine.old follow.old }
+    requires latest { AreBests (rules_in passed.now) (list_in pair.now) latest.old }
     ensures stand { OnOk result (StandAt (rules_in passed.now) (list_in pair.now) (record_in passed.now).events (place + 1) machine.new follow.new) }
+    ensures latest { OnOk result (AreBests (rules_in passed.now) (list_in pair.now) latest.new) }
     ensures line { OnOk result (Appends (IsEventLine (rules_in passed.now) (list_in pair.now) (record_in passed.now) place)
         text.old.items text.new.items) }
 {
@@ -80,7 +84,7 @@ fn push_event_line(
         game.players.of(event.player).nick.as_bytes(),
     )?;
     event_text(game, place, text)?;
-    push_best(text, passed, pair, machine, follow, event)?;
+    push_best(text, passed, pair, machine, follow, latest, event)?;
     follow_event(passed, pair, machine, follow, place);
     push_unlisted(text, pair.list(), machine.standing_words())?;
     text.push(b'\n')?;
@@ -95,8 +99,17 @@ fn push_lines(text: &mut Vec<u8>, passed: &Passed<'_>, pair: &Checked<'_>) -> Re
 {
     let mut machine = Machine::new(passed.rules());
     let mut follow = Follow::new(passed.rules(), pair);
+    let mut latest = LatestBests::new();
     for place in 0..passed.record().events.len() {
-        push_event_line(text, passed, pair, &mut machine, &mut follow, place)?;
+        push_event_line(
+            text,
+            passed,
+            pair,
+            &mut machine,
+            &mut follow,
+            &mut latest,
+            place,
+        )?;
     }
     Ok(())
 }

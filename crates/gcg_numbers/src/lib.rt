@@ -10,6 +10,7 @@ mod numbers;
 mod raw_lines;
 mod writing;
 
+pub use cutting::{Last, last_field};
 pub use laws::law_of_numbers;
 pub use raw_lines::{RawLine, cut_raw_line, is_event_line, push_mark};
 pub use writing::{push_line_with, push_with_numbers};

@@ -7,7 +7,6 @@ ghost use Rattle.call_stages.specs.Sources.{game_source};
 ghost use Rattle.command_files.specs.Telling.{IsCaseTold};
 ghost use Rattle.game_case.specs.Explaining.{HasItsWalk};
 
-use answer_json::push_bad_record;
 use call_stages::RunFault;
 use command_files::{GivenFiles, SheetFile, Told, has_no_event, write};
 use devices::Input;
@@ -16,7 +15,7 @@ use game_case::{Case, open_case};
 use lex_check::Checked;
 use ref_tiles::Rules;
 use repair_answers::answer_repairs;
-use repair_json::{push_no_game, push_repair_answer};
+use repair_json::{push_bad_repairs, push_no_game, push_repair_answer};
 use std::alloc::{AllocError, Global};
 use std::io::Read;
 use std::rt::Runtime;
@@ -43,7 +42,7 @@ fn case_text(
         Ok(entry) => {
             push_repair_answer(alloc, &mut text, &entry.record, &answer, unread.as_slice())?;
         }
-        Err(fault) => push_bad_record(alloc, &mut text, *fault)?,
+        Err(fault) => push_bad_repairs(alloc, &mut text, *fault, &answer.of_line)?,
     }
     Ok(text)
 }

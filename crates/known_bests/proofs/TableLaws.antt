@@ -1,13 +1,11 @@
 -- What a table keeps.
-use Rattle.std.proofs.Common.{◌≡◌, ℕ, pos, ◌<◌, Bool, true, List, [], ◌∷◌, length, slice_index_or, All, Option, Some, None, IfSome, refl, sym, ap, ◌∙◌, subst}
-use Rattle.std.proofs.lemmas.Bool.{and_parts}
+use Rattle.std.proofs.Common.{◌≡◌, ℕ, pos, ◌<◌, List, length, slice_index_or, All, Option, Some, None, IfSome, sym, ◌∙◌, subst}
 use Rattle.ref_tiles.specs.declared.tiles.Tile.{Tile}
 use Rattle.ref_tiles.specs.declared.rulebook.Rules.{Rules}
 use Rattle.event_notes.specs.Bests.{IsBestBy}
 use Rattle.known_bests.specs.declared.known.KnownBest.{KnownBest}
 use Rattle.known_bests.specs.declared.known.KnownBests.{KnownBests}
 use Rattle.known_bests.specs.Known.{IsKnown, AreKnown}
-use lib.Pointwise.{pointwise}
 
 -- nothing is known of an empty place
 empty_known : (rules : Rules) (list : List (List ℕ)) (place : Option KnownBest) → place ≡ None → IfSome place (IsKnown rules list)
@@ -17,15 +15,6 @@ empty_known rules list (Some kept) is = cc
 pub nothing_known : (rules : Rules) (list : List (List ℕ)) (known : KnownBests) → All (λ (place : Option KnownBest). place ≡ None) known.places.items → AreKnown rules list known
 nothing_known rules list known empty =
     record { each = λ k d below. empty_known rules list (slice_index_or known.places.items k d) (empty k d below) }
-
--- racks whose numbers are the same
-pub same_numbers : (same : ℕ → ℕ → Bool) → ((a b : ℕ) → same a b ≡ true → a ≡ b) → (xs ys : List ℕ) → pointwise same xs ys ≡ true → xs ≡ ys
-same_numbers same tells [] [] is = refl
-same_numbers same tells [] (y ∷ ys) is = cc
-same_numbers same tells (x ∷ xs) [] is = cc
-same_numbers same tells (x ∷ xs) (y ∷ ys) is =
-    let parts = and_parts (same x y) (pointwise same xs ys) is in
-    ap (λ z. z ∷ xs) (tells x y parts.0) ∙ ap (λ zs. y ∷ zs) (same_numbers same tells xs ys parts.1)
 
 -- what is kept at a place is for its board and its rack
 kept_there : (rules : Rules) (list : List (List ℕ)) (kept : KnownBest) (board : List (Option Tile)) (rack : List ℕ) → IsKnown rules list kept → kept.board ≡ board → kept.rack ≡ rack

@@ -13,6 +13,9 @@ use record_changes::Change;
 use ref_tiles::{Counts, Rules};
 use std::alloc::{AllocError, Global};
 
+/// Before how many of the last places plays are looked for.
+const MOST_PLACES: usize = 100;
+
 /// What a record says of its tiles.
 #[derive(Clone, Copy)]
 struct Tiles {
@@ -85,7 +88,7 @@ fn push_at(
     push_missing_at(alloc, changes, rules, pair, walk, events, place, tiles)
 }
 
-/// The changes of plays that a record may need, at each place up to the event at which its correction stops. In a record that has a last rack
+/// The changes of plays that a record may need, at each place up to the event at which its correction stops, and of these at the last 101. In a record that has a last rack
 /// all tiles are on its lines: those that are on none may be a play that is missing, and a play must have had those that are on no other
 /// line. If the line of a play states a rack, it may be another play of this rack with the score that is written.
 ///
@@ -105,7 +108,7 @@ pub fn plays_for(
     };
     let mut changes = Vec::new(alloc);
     let last = walk.rows.len().min(events.len());
-    for place in 0..last + 1 {
+    for place in last.saturating_sub(MOST_PLACES)..last + 1 {
         push_at(
             alloc,
             &mut changes,

@@ -1,12 +1,16 @@
 -- Records after a change, as the definitions give them, computed. Squares are numbered row by row from 1A, which is 0: 8E is 109,
 -- 10F is 140, and F10, with row and column interchanged, would be 6J, which is 84.
-use Rattle.std.proofs.Common.{ℕ, ℤ, pos, negsuc, true, false, List, [], ◌∷◌, get_or, None, refl}
+use Rattle.std.proofs.Common.{ℕ, ℤ, pos, negsuc, true, false, List, [], ◌∷◌, get_or, Option, Some, None, refl, arith}
 use Rattle.std.specs.Prelude.{codes}
+use Rattle.std.specs.List.{filter_map}
 use Rattle.first_faults.proofs.Rows.{Agree}
+use Rattle.ref_tiles.specs.declared.letters.Letter.{Letter}
 use Rattle.ref_tiles.specs.declared.kinds.Kind.TheVariants as kind_of_tile
 use Rattle.ref_tiles.specs.declared.symbols.Symbol.{Symbol}
 use Rattle.ref_tiles.specs.declared.symbols.Symbol.TheVariants as symbol
 use Rattle.ref_tiles.specs.Letters.{letter_at}
+use Rattle.ref_tiles.specs.Kinds.{kind_of}
+use Rattle.ref_tiles.specs.Counting.{counted}
 use Rattle.ref_board.specs.declared.directions.Dir.TheVariants.{Across, Down}
 use Rattle.gcg_read.specs.declared.events.Event.{Event}
 use Rattle.gcg_read.specs.declared.events.EventKind.{EventKind}
@@ -21,6 +25,7 @@ use Rattle.record_changes.specs.declared.slips.SpellingSlip.TheVariants as spell
 use Rattle.record_changes.specs.declared.slips.CodeSlip.TheVariants as code
 use Rattle.record_changes.specs.declared.slips.TilesOf.TheVariants as tiles_of
 use Rattle.record_changes.specs.declared.slips.TileSlip.TheVariants as tile
+use Rattle.record_changes.specs.declared.slips.Misread.TheVariants as misread
 use Rattle.record_changes.specs.declared.slips.MissingLine.TheVariants as line
 use Rattle.record_changes.specs.Splices.{spliced}
 use Rattle.record_changes.specs.Applied.{applied}
@@ -108,6 +113,40 @@ other_lines : Agree (
 unfolding spliced letter_at
 other_lines = refl
 
+-- the number of tiles of each kind among some letters
+abbrev tiles : List ℕ → List ℕ
+tiles letters = counted (filter_map kind_of letters)
+
+-- a letter by its number; A if there is none
+abbrev letter_or_a : Option Letter → Letter
+letter_or_a None = record { index = 0; in_range = omega arith }
+letter_or_a (Some l) = l
+
+abbrev letter_h : Letter
+letter_h = letter_or_a (letter_at 7)
+
+abbrev letter_t : Letter
+letter_t = letter_or_a (letter_at 19)
+
+-- a line of the second player that states a rack
+abbrev racked : List ℕ → EventKind → Event
+racked letters what = record at_play { rack = Some (tiles letters); kind = what }
+
+abbrev with_tiles : Slip → Event → List Event
+with_tiles what e = applied (record { place = 0; slip = what }) (e ∷ [])
+
+-- One tile is misread twice: the rack and the word have another one, or the rack and the exchange. A tile that is not there stays as it is, and so does
+-- a line without a rack, or one that is not a play or an exchange.
+misread_twice : Agree (
+    (with_tiles (slip.Misread (misread.Played 1 letter_t letter_h)) (racked (codes "ABT") (kind.Play 140 Across (word (codes "AT")))), racked (codes "ABH") (kind.Play 140 Across (word (codes "AH"))) ∷ [])
+    ∷ (with_tiles (slip.Misread (misread.Played 0 letter_t letter_h)) (racked (codes "TTB") (kind.Play 140 Across (word (codes "TT")))), racked (codes "HTB") (kind.Play 140 Across (word (codes "HT"))) ∷ [])
+    ∷ (with_tiles (slip.Misread (misread.Exchanged kind_of_tile.Blank (kind_of_tile.Letter letter_h))) (racked (codes "AB?") (kind.Exchange (tiles (codes "A?")))), racked (codes "ABH") (kind.Exchange (tiles (codes "AH"))) ∷ [])
+    ∷ (with_tiles (slip.Misread (misread.Exchanged (kind_of_tile.Letter letter_t) kind_of_tile.Blank)) (racked (codes "ABT") kind.Pass), racked (codes "AB?") kind.Pass ∷ [])
+    ∷ (with_tiles (slip.Misread (misread.Played 1 letter_t letter_h)) at_play, record at_play { kind = kind.Play 140 Across (word (codes "AH")) } ∷ [])
+    ∷ [])
+unfolding spliced letter_at counted
+misread_twice = refl
+
 -- ---- weights
 weights : Agree (
     (weight_of slip.Repeated, 1)
@@ -116,6 +155,8 @@ weights : Agree (
     ∷ (weight_of (slip.Tile tiles_of.Exchange (tile.Extra kind_of_tile.Blank)), 2)
     ∷ (weight_of (slip.Tile tiles_of.Exchange (tile.Missing kind_of_tile.Blank)), 2)
     ∷ (weight_of (slip.Tile tiles_of.LastRack (tile.Extra kind_of_tile.Blank)), 4)
+    ∷ (weight_of (slip.Misread (misread.Played 1 letter_t letter_h)), 4)
+    ∷ (weight_of (slip.Misread (misread.Exchanged kind_of_tile.Blank (kind_of_tile.Letter letter_h))), 4)
     ∷ (weight_of (slip.Missing (line.Time First (negsuc 9) true)), 11)
     ∷ (weight_of (slip.Missing (line.Challenge First (pos 10) true)), 5)
     ∷ (weight_of (slip.Missing (line.Play First (record { at = 105; dir = Down; word = word (codes "AB") }))), 4)

@@ -1,6 +1,7 @@
 -- A record after a change.
 use Rattle.std.specs.Prelude.{ℕ, ℤ, pos, nat_le, ◌&&◌, List, [], ◌∷◌, map, reverse, length, Option, None, if◌then◌else◌}
 use Rattle.std.specs.Option.{option_map}
+use Rattle.ref_tiles.specs.declared.kinds.Kind.TheVariants as kind_of_tile
 use Rattle.ref_tiles.specs.declared.symbols.Symbol.{Symbol}
 use Rattle.ref_tiles.specs.declared.symbols.Symbol.TheVariants as symbol
 use Rattle.ref_board.specs.declared.directions.Dir.{Dir}
@@ -22,6 +23,8 @@ use Rattle.record_changes.specs.declared.slips.TilesOf.{TilesOf}
 use Rattle.record_changes.specs.declared.slips.TilesOf.TheVariants as tiles_of
 use Rattle.record_changes.specs.declared.slips.TileSlip.{TileSlip}
 use Rattle.record_changes.specs.declared.slips.TileSlip.TheVariants as tile
+use Rattle.record_changes.specs.declared.slips.Misread.{Misread}
+use Rattle.record_changes.specs.declared.slips.Misread.TheVariants as misread
 use Rattle.record_changes.specs.declared.slips.CodeSlip.{CodeSlip}
 use Rattle.record_changes.specs.declared.slips.CodeSlip.TheVariants as code
 use Rattle.record_changes.specs.declared.slips.RightPlay.{RightPlay}
@@ -117,12 +120,23 @@ right_lot tiles_of.Exchange s (kind.Exchange counts) = kind.Exchange (right_tile
 right_lot tiles_of.LastRack s (kind.LastRack counts) = kind.LastRack (right_tiles s counts)
 right_lot of s other = other
 
+-- one tile that is misread twice, on the stated rack
+abbrev pub misread_on_rack : Misread → TileSlip
+misread_on_rack (misread.Played place written right) = tile.Other (kind_of_tile.Letter written) (kind_of_tile.Letter right)
+misread_on_rack (misread.Exchanged written right) = tile.Other written right
+
+-- and in the word of the play, or among the exchanged tiles
+abbrev pub right_misread : Misread → EventKind → EventKind
+right_misread (misread.Played place written right) what = right_spelling (spelling.OtherLetter place (symbol.Letter right)) what
+right_misread (misread.Exchanged written right) what = right_lot tiles_of.Exchange (tile.Other written right) what
+
 -- what happened
 abbrev pub right_kind : Slip → EventKind → EventKind
 right_kind (slip.Position s) what = right_position s what
 right_kind (slip.Spelling s) what = right_spelling s what
 right_kind (slip.Replayed right) what = right_play right what
 right_kind (slip.Tile of s) what = right_lot of s what
+right_kind (slip.Misread m) what = right_misread m what
 right_kind (slip.Number n) what = kind.ExchangeUnknown n
 right_kind (slip.Code s) what = code_kind s
 right_kind (slip.Rest counts) what = kind.LastRack counts
@@ -131,6 +145,7 @@ right_kind other what = what
 -- the stated rack
 abbrev pub right_rack : Slip → Option (List ℕ) → Option (List ℕ)
 right_rack (slip.Tile tiles_of.Rack s) rack = option_map (right_tiles s) rack
+right_rack (slip.Misread m) rack = option_map (right_tiles (misread_on_rack m)) rack
 right_rack slip.NoRack rack = None
 right_rack other rack = rack
 

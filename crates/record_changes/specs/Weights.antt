@@ -72,6 +72,7 @@ weight_of (slip.Position s) = position_weight s
 weight_of (slip.Spelling s) = spelling_weight s
 weight_of (slip.Replayed play) = 6
 weight_of (slip.Tile of s) = tile_weight of s
+weight_of (slip.Misread m) = 4
 weight_of slip.NoRack = 5
 weight_of (slip.Number n) = 4
 weight_of (slip.Code s) = 2

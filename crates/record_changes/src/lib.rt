@@ -19,7 +19,8 @@ pub use laws::law_of_changes;
 pub use numbers::{numbers_with, numbers_with_both};
 pub use slip_copies::copy_slip;
 pub use slips::{
-    Change, CodeSlip, MissingLine, PositionSlip, RightPlay, Slip, SpellingSlip, TileSlip, TilesOf,
+    Change, CodeSlip, Misread, MissingLine, PositionSlip, RightPlay, Slip, SpellingSlip, TileSlip,
+    TilesOf,
 };
 pub use spots::{Spot, second_spot, spot_of};
 pub use weights::weight_of;

@@ -2,15 +2,19 @@
 ghost use Rattle.std.specs.Prelude.{◌≡◌};
 ghost use Rattle.std.specs.Option.{option_map};
 ghost use Rattle.ref_board.specs.Cells.{mirrored};
-ghost use Rattle.record_changes.specs.Applied.{right_square, right_dir, right_tiles, code_kind, right_position, right_spelling, right_play, right_lot, right_kind, right_rack, right_player, right_amount, right_event};
+ghost use Rattle.ref_tiles.specs.declared.symbols.Symbol.TheVariants as symbol;
+ghost use Rattle.record_changes.specs.declared.slips.SpellingSlip.TheVariants as spelling;
+ghost use Rattle.record_changes.specs.Applied.{right_square, right_dir, right_tiles, code_kind, right_position, right_spelling, right_play, right_lot, misread_on_rack, right_misread, right_kind, right_rack, right_player, right_amount, right_event};
 
 use crate::copying::{copy_kind, copy_text, play_kind};
 use crate::counting::{one_less, one_more};
-use crate::slips::{CodeSlip, PositionSlip, RightPlay, Slip, SpellingSlip, TileSlip, TilesOf};
+use crate::slips::{
+    CodeSlip, Misread, PositionSlip, RightPlay, Slip, SpellingSlip, TileSlip, TilesOf,
+};
 use crate::splices::right_word;
 use gcg_read::{Event, EventKind, Points, Seat};
 use ref_board::{Dir, Square};
-use ref_tiles::Counts;
+use ref_tiles::{Counts, Kind, Letter, Symbol};
 
 /// The square with the row and the column of another one interchanged.
 fn mirrored(at: Square) -> Square
@@ -116,6 +120,40 @@ fn right_lot(of: TilesOf, slip: &TileSlip, kind: &EventKind) -> EventKind
     }
 }
 
+/// The slip of the stated rack, of a tile that is misread twice.
+fn misread_on_rack(slip: &Misread) -> TileSlip
+    ensures { result ≡ misread_on_rack slip.now }
+{
+    match slip {
+        Misread::Played { tile, right, .. } => TileSlip::Other {
+            tile: Kind::Letter(*tile),
+            right: Kind::Letter(*right),
+        },
+        Misread::Exchanged { tile, right } => TileSlip::Other {
+            tile: *tile,
+            right: *right,
+        },
+    }
+}
+
+/// A play with another letter at a place of its text.
+fn relettered(place: usize, right: Letter, kind: &EventKind) -> EventKind
+    ensures { result ≡ right_spelling (spelling.OtherLetter place (symbol.Letter right)) kind.now }
+{
+    let right = Symbol::Letter(right);
+    right_spelling(&SpellingSlip::OtherLetter { place, right }, kind)
+}
+
+/// What happened, of a tile that is misread twice.
+fn right_misread(slip: &Misread, kind: &EventKind) -> EventKind
+    ensures { result ≡ right_misread slip.now kind.now }
+{
+    match slip {
+        Misread::Played { place, right, .. } => relettered(*place, *right, kind),
+        Misread::Exchanged { .. } => { right_lot(TilesOf::Exchange, &misread_on_rack(slip), kind) }
+    }
+}
+
 /// What happened.
 fn right_kind(slip: &Slip, kind: &EventKind) -> EventKind
     ensures { result ≡ right_kind slip.now kind.now }
@@ -125,6 +163,7 @@ fn right_kind(slip: &Slip, kind: &EventKind) -> EventKind
         Slip::Spelling(slip) => right_spelling(slip, kind),
         Slip::Replayed(right) => right_play(right, kind),
         Slip::Tile { of, slip } => right_lot(*of, slip, kind),
+        Slip::Misread(slip) => right_misread(slip, kind),
         Slip::Number(number) => EventKind::ExchangeUnknown(*number),
         Slip::Code(slip) => code_kind(slip),
         Slip::Rest(tiles) => EventKind::LastRack(*tiles),
@@ -151,6 +190,7 @@ fn right_rack(slip: &Slip, rack: &Option<Counts>) -> Option<Counts>
             of: TilesOf::Rack,
             slip,
         } => right_tiles_of(slip, rack),
+        Slip::Misread(slip) => right_tiles_of(&misread_on_rack(slip), rack),
         Slip::NoRack => None,
         _ => *rack,
     }

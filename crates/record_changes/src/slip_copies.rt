@@ -108,6 +108,7 @@ pub fn copy_slip(slip: &Slip) -> Slip
             of: *of,
             slip: *slip,
         },
+        Slip::Misread(slip) => Slip::Misread(*slip),
         Slip::NoRack => Slip::NoRack,
         Slip::Number(number) => Slip::Number(*number),
         Slip::Code(code) => Slip::Code(*code),

@@ -105,6 +105,27 @@ pub enum TileSlip {
     },
 }
 
+/// One tile that is misread twice on a line: on the rack that the line states, and in what was done with it.
+#[derive(Clone, Copy)]
+pub enum Misread {
+    /// On the rack and in the word of the play.
+    Played {
+        /// The place of the tile in the text, counted from 0.
+        place: usize,
+        /// The letter that is written.
+        tile: Letter,
+        /// The right one.
+        right: Letter,
+    },
+    /// On the rack and among the exchanged tiles.
+    Exchanged {
+        /// The tile that is written.
+        tile: Kind,
+        /// The right one.
+        right: Kind,
+    },
+}
+
 /// What a pass, an exchange of unknown tiles or a withdrawal should be.
 #[derive(Clone, Copy)]
 pub enum CodeSlip {
@@ -191,6 +212,8 @@ pub enum Slip {
         /// What is wrong with them.
         slip: TileSlip,
     },
+    /// A tile is misread twice.
+    Misread(Misread),
     /// The rack that the line states is wrong, and the right one is not known.
     NoRack,
     /// This number of unknown tiles is exchanged.

@@ -93,6 +93,7 @@ pub fn weight_of(slip: &Slip) -> usize
         Slip::Spelling(slip) => spelling_weight(slip),
         Slip::Replayed(_) => 6,
         Slip::Tile { of, slip } => tile_weight(*of, slip),
+        Slip::Misread(_) => 4,
         Slip::NoRack => 5,
         Slip::Number(_) => 4,
         Slip::Code(_) => 2,

@@ -71,6 +71,7 @@ by_slip (slip.Position s) place changed right are = are
 by_slip (slip.Spelling s) place changed right are = are
 by_slip (slip.Replayed play) place changed right are = are
 by_slip (slip.Tile of s) place changed right are = are
+by_slip (slip.Misread m) place changed right are = are
 by_slip slip.NoRack place changed right are = are
 by_slip (slip.Number n) place changed right are = are
 by_slip (slip.Code s) place changed right are = are

@@ -196,6 +196,7 @@ missing_at (slip.Position s) place k is = cc
 missing_at (slip.Spelling s) place k is = cc
 missing_at (slip.Replayed play) place k is = cc
 missing_at (slip.Tile of s) place k is = cc
+missing_at (slip.Misread m) place k is = cc
 missing_at slip.NoRack place k is = cc
 missing_at (slip.Number n) place k is = cc
 missing_at (slip.Code s) place k is = cc

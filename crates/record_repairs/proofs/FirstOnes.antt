@@ -124,8 +124,8 @@ before_or : {X Y : Type 0} (index k : ℕ) → (k < index → X ⊎ Y) → (k < 
 before_or index k old (inl less) = inl (old less)
 before_or index k old (inr behind) = inr behind
 
-pub told_more : (rules : Rules) (list : List (List ℕ)) (written : List Event) (plays : List Change) (below : Option ℕ) (most : ℕ) (found : List Candidate) (index : ℕ) (c : Candidate) (right : List Event)
-    (told : List Repair) (left : List Listed) (r : Repair) → AreCandidates rules list written plays below found → AreSoFar rules list written plays below most found index told left
+pub told_more : {from : ℕ} (rules : Rules) (list : List (List ℕ)) (written : List Event) (plays : List Change) (below : Option ℕ) (most : ℕ) (found : List Candidate) (index : ℕ) (c : Candidate) (right : List Event)
+    (told : List Repair) (left : List Listed) (r : Repair) → AreCandidates rules list written plays below from found → AreSoFar rules list written plays below most found index told left
     → slice_get found index ≡ Some c → length told < most → HasRight rules list written c right → MakesGame rules list written plays below c.listed right → r.listed ≡ c.listed → r.right ≡ right
     → Remain rules list c.listed.change written right r.remains → (IsAmong told right → ⊥) → AreSoFar rules list written plays below most found (index + 1) (told ++ r ∷ []) left
 told_more rules list written plays below most found index c right told left r are so at room has made by makes remain fresh =
@@ -159,8 +159,8 @@ others_open found index c told left at k d other below of_d (inr behind) =
     let same : d ≡ c = same_Some d c (sym of_d ∙ ap (slice_get found) here ∙ at) in
     inl (subst (λ (x : Candidate). Contains (left ++ c.listed ∷ []) x.listed) (sym same) (Contains-push left c.listed))
 
-pub open_more : (rules : Rules) (list : List (List ℕ)) (written : List Event) (plays : List Change) (below : Option ℕ) (most : ℕ) (found : List Candidate) (index : ℕ) (c : Candidate) (right : List Event)
-    (told : List Repair) (left : List Listed) → AreCandidates rules list written plays below found → AreSoFar rules list written plays below most found index told left → slice_get found index ≡ Some c
+pub open_more : {from : ℕ} (rules : Rules) (list : List (List ℕ)) (written : List Event) (plays : List Change) (below : Option ℕ) (most : ℕ) (found : List Candidate) (index : ℕ) (c : Candidate) (right : List Event)
+    (told : List Repair) (left : List Listed) → AreCandidates rules list written plays below from found → AreSoFar rules list written plays below most found index told left → slice_get found index ≡ Some c
     → HasRight rules list written c right → IsUnsettled rules list right → AreSoFar rules list written plays below most found (index + 1) told (left ++ c.listed ∷ [])
 open_more rules list written plays below most found index c right told left are so at has unsettled =
     record {
@@ -224,8 +224,8 @@ put rules list written plays below most found index told more left open_ones sam
     subst (λ (xs : List Repair). AreSoFar rules list written plays below most found index xs open_ones) (sym same_told)
     (subst (λ (xs : List Listed). AreSoFar rules list written plays below most found index told xs) (sym same_left) so)
 
-tried_by : (rules : Rules) (list : List (List ℕ)) (written : List Event) (plays : List Change) (below : Option ℕ) (most : ℕ) (found : List Candidate) (index : ℕ) (c : Candidate) (right : List Event) (old new : Found)
-    → AreCandidates rules list written plays below found → AreSoFar rules list written plays below most found index old.told.items old.left.items → slice_get found index ≡ Some c
+tried_by : {from : ℕ} (rules : Rules) (list : List (List ℕ)) (written : List Event) (plays : List Change) (below : Option ℕ) (most : ℕ) (found : List Candidate) (index : ℕ) (c : Candidate) (right : List Event) (old new : Found)
+    → AreCandidates rules list written plays below from found → AreSoFar rules list written plays below most found index old.told.items old.left.items → slice_get found index ≡ Some c
     → length old.told.items < most → HasRight rules list written c right → AreFewer below (many_left rules list c.listed.change written right)
     → IsTriedWith rules list written c.listed right old new → AreSoFar rules list written plays below most found (index + 1) new.told.items new.left.items
 tried_by rules list written plays below most found index c right old new are so at room has fewer (inl adds) =
@@ -240,8 +240,8 @@ tried_by rules list written plays below most found index c right old new are so 
     put rules list written plays below most found (index + 1) old.told.items new.told.items old.left.items new.left.items adds.same_told adds.same_left
     (none_more rules list written plays below most found index c right old.told.items old.left.items so at has adds.why)
 
-pub next_tried : (rules : Rules) (list : List (List ℕ)) (written : List Event) (plays : List Change) (below : Option ℕ) (most : ℕ) (found : List Candidate) (index : ℕ) (c : Candidate) (old new : Found)
-    → AreCandidates rules list written plays below found → AreSoFar rules list written plays below most found index old.told.items old.left.items → index < length found → c ≡ get_or found index c
+pub next_tried : {from : ℕ} (rules : Rules) (list : List (List ℕ)) (written : List Event) (plays : List Change) (below : Option ℕ) (most : ℕ) (found : List Candidate) (index : ℕ) (c : Candidate) (old new : Found)
+    → AreCandidates rules list written plays below from found → AreSoFar rules list written plays below most found index old.told.items old.left.items → index < length found → c ≡ get_or found index c
     → length old.told.items < most → IsTried rules list written c old new → AreSoFar rules list written plays below most found (index + 1) new.told.items new.left.items
 next_tried rules list written plays below most found index c old new are so within is room tried =
     let at : slice_get found index ≡ Some c = slice_get_read found (length found) index c refl within is in
@@ -269,8 +269,8 @@ others_at rules list written plays below most found index told left k c right so
     absurd (omega (arith, all, behind, within))
 others_at rules list written plays below most found index told left k c right so at is game (inr many) (inr behind) = inr (inr (each_ahead most found index told k c many so.ahead behind at))
 
-others_of : (rules : Rules) (list : List (List ℕ)) (written : List Event) (plays : List Change) (below : Option ℕ) (most : ℕ) (found : List Candidate) (index : ℕ) (told : List Repair) (left : List Listed)
-    → AreCandidates rules list written plays below found → AreSoFar rules list written plays below most found index told left → (length found ≤ index) ⊎ (length told ≡ most) → (c : Candidate) (right : List Event)
+others_of : {from : ℕ} (rules : Rules) (list : List (List ℕ)) (written : List Event) (plays : List Change) (below : Option ℕ) (most : ℕ) (found : List Candidate) (index : ℕ) (told : List Repair) (left : List Listed)
+    → AreCandidates rules list written plays below from found → AreSoFar rules list written plays below most found index told left → (length found ≤ index) ⊎ (length told ≡ most) → (c : Candidate) (right : List Event)
     → Contains found c → IsWritable rules list (applied c.listed.change written) right → IsGame rules list right
     → Contains left c.listed ⊎ (IsToldAt told right (rank_at (cost_of rules list c.listed.change written right) c.listed)
     ⊎ AreAhead most told (rank_at (cost_of rules list c.listed.change written right) c.listed))
@@ -282,9 +282,9 @@ others_of rules list written plays below most found index told left are so done 
     subst (λ (n : ℕ). Contains left c.listed ⊎ (IsToldAt told right (rank_at n c.listed) ⊎ AreAhead most told (rank_at n c.listed))) cost
     (others_at rules list written plays below most found index told left k c right so here is game done (cases_lt k index))
 
-pub first_ones : (rules : Rules) (list : List (List ℕ)) (written : List Event) (plays : List Change) (below : Option ℕ) (most : ℕ) (found : List Candidate) (index : ℕ) (told : List Repair) (left : List Listed)
-    → AreCandidates rules list written plays below found → AreSoFar rules list written plays below most found index told left → (length found ≤ index) ⊎ (length told ≡ most)
-    → AreFirstRepairs rules list written plays below most told left
+pub first_ones : {from : ℕ} (rules : Rules) (list : List (List ℕ)) (written : List Event) (plays : List Change) (below : Option ℕ) (most : ℕ) (found : List Candidate) (index : ℕ) (told : List Repair) (left : List Listed)
+    → AreCandidates rules list written plays below from found → AreSoFar rules list written plays below most found index told left → (length found ≤ index) ⊎ (length told ≡ most)
+    → AreFirstRepairs rules list written plays below from most told left
 first_ones rules list written plays below most found index told left are so done =
     record {
       repairs = so.repairs;
@@ -292,8 +292,8 @@ first_ones rules list written plays below most found index told left are so done
       ordered = so.ordered;
       once = so.once;
       unsettled = so.unsettled;
-      others = λ l right makes.
-          let there = are.all l (record { single = makes.single; right = right; correction = makes.correction; fewer = makes.fewer; game = makes.game }) in
+      others = λ l right late makes.
+          let there = are.all l late (record { single = makes.single; right = right; correction = makes.correction; fewer = makes.fewer; game = makes.game }) in
           subst
           (λ (x : Listed). Contains left x ⊎ (IsToldAt told right (rank_at (cost_of rules list x.change written right) x) ⊎ AreAhead most told (rank_at (cost_of rules list x.change written right) x)))
           there.same
@@ -302,9 +302,9 @@ first_ones rules list written plays below most found index told left are so done
     }
 
 -- what is given for candidates with all plays with which they are candidates is given for them with these
-pub told_with : {E : Type 0} (rules : Rules) (list : List (List ℕ)) (written : List Event) (plays : List Change) (below : Option ℕ) (most : ℕ) (found : List Candidate) (r : Result Found E)
-    → AreCandidates rules list written plays below found
-    → IfOk r (λ f. (others : List Change) → AreCandidates rules list written others below found → AreFirstRepairs rules list written others below most f.told.items f.left.items)
-    → IfOk r (λ f. AreFirstRepairs rules list written plays below most f.told.items f.left.items)
+pub told_with : {E : Type 0} {from : ℕ} (rules : Rules) (list : List (List ℕ)) (written : List Event) (plays : List Change) (below : Option ℕ) (most : ℕ) (found : List Candidate) (r : Result Found E)
+    → AreCandidates rules list written plays below from found
+    → IfOk r (λ f. (others : List Change) → AreCandidates rules list written others below from found → AreFirstRepairs rules list written others below f.from most f.told.items f.left.items)
+    → IfOk r (λ f. AreFirstRepairs rules list written plays below f.from most f.told.items f.left.items)
 told_with rules list written plays below most found (Ok f) are first = first plays are
 told_with rules list written plays below most found (Err e) are first = tt

@@ -20,7 +20,7 @@ use Rattle.record_changes.proofs.Fronts.{front_stays}
 use Rattle.record_changes.specs.declared.slips.Slip.{Slip}
 use Rattle.change_lists.specs.Changes.{slips_by, change_at, changes_at}
 use Rattle.change_lists.specs.Laws.{SlipsAreByBoard}
-use Rattle.record_repairs.specs.Candidates.{MayBeTold, AreAllOf, AddsAllOf}
+use Rattle.record_repairs.specs.Candidates.{MayBeTold, IsBetween, AreAllOf, AreBetween, AddsAllOf}
 use Rattle.record_repairs.specs.Listing.{changes_with}
 use Rattle.record_repairs.specs.Repairs.{IsListed}
 use Rattle.record_repairs.specs.Trying.{IsWeight, NoneFewer, StandsBefore}
@@ -172,23 +172,35 @@ pub added_with : {A E : Type 0} (rules : Rules) (list : List (List ℕ)) (writte
 added_with rules list written plays below place slips old new (Ok a) are adds = adds plays are
 added_with rules list written plays below place slips old new (Err e) are adds = tt
 
--- ---- place after place
+-- ---- place after place, from the last one on
 
-pub before_first : (rules : Rules) (list : List (List ℕ)) (written : List Event) (plays : List Change) (below : Option ℕ) → AreAllOf rules list written plays below (λ l. l.change.place < 0) []
-before_first rules list written plays below = none_of rules list written plays below (λ l. l.change.place < 0) (λ l of_l may. absurd (omega (arith, of_l)))
+pub between_none : (rules : Rules) (list : List (List ℕ)) (written : List Event) (plays : List Change) (below : Option ℕ) (end : ℕ) → AreBetween rules list written plays below end end []
+between_none rules list written plays below end =
+    none_of rules list written plays below (λ l. IsBetween end end l.change.place)
+    (λ l of_l may.
+    let late = of_l.0 in
+    let early = of_l.1 in
+    absurd (omega (arith, late, early)))
 
-split_place : (place : ℕ) (l : Listed) → l.change.place < place + 1 → (l.change.place < place) ⊎ (place ≤ l.change.place) → (l.change.place < place) ⊎ (l.change.place ≡ place)
-split_place place l under (inl less) = inl less
-split_place place l under (inr not_less) = inr (omega (arith, under, not_less))
+split_place : (place end : ℕ) (l : Listed) → IsBetween place end l.change.place → (l.change.place < place + 1) ⊎ (place + 1 ≤ l.change.place)
+    → (l.change.place ≡ place) ⊎ IsBetween (place + 1) end l.change.place
+split_place place end l of_l (inl less) = let late = of_l.0 in inl (omega (arith, less, late))
+split_place place end l of_l (inr not_less) = inr (not_less, of_l.1)
 
-pub before_more : (rules : Rules) (list : List (List ℕ)) (written : List Event) (plays : List Change) (below : Option ℕ) (place : ℕ) (old new : List Candidate)
-    → AreAllOf rules list written plays below (λ l. l.change.place < place) old → AddsAllOf rules list written plays below (λ l. l.change.place ≡ place) old new
-    → AreAllOf rules list written plays below (λ l. l.change.place < place + 1) new
-before_more rules list written plays below place old new before adds =
-    subst (AreAllOf rules list written plays below (λ l. l.change.place < place + 1)) (sym adds.added)
-    (joined rules list written plays below (λ l. l.change.place < place) (λ l. l.change.place ≡ place) (λ l. l.change.place < place + 1) old adds.more before adds.are
-    (λ l of_l. omega (arith, of_l)) (λ l at. omega (arith, at)) (λ l of_l may. split_place place l of_l (cases_lt l.change.place place))
-    (λ a b of_a of_b. earlier_place a.listed.change.place b.listed.change.place a.listed.index b.listed.index (omega (arith, of_a, of_b))))
+pub between_more : (rules : Rules) (list : List (List ℕ)) (written : List Event) (plays : List Change) (below : Option ℕ) (place end : ℕ) (here old new : List Candidate)
+    → place < end → AddsAllOf rules list written plays below (λ l. l.change.place ≡ place) [] here → AreBetween rules list written plays below (place + 1) end old → new ≡ here ++ old
+    → AreBetween rules list written plays below place end new
+between_more rules list written plays below place end here old new inside adds behind is =
+    subst (AreBetween rules list written plays below place end) (sym (is ∙ ap (λ (xs : List Candidate). xs ++ old) adds.added))
+    (joined rules list written plays below (λ l. l.change.place ≡ place) (λ l. IsBetween (place + 1) end l.change.place) (λ l. IsBetween place end l.change.place) adds.more old adds.are behind
+    (λ l at. (omega (arith, at), omega (arith, at, inside)))
+    (λ l of_l.
+    let late = of_l.0 in
+    (omega (arith, late), of_l.1))
+    (λ l of_l may. split_place place end l of_l (cases_lt l.change.place (place + 1)))
+    (λ a b of_a of_b.
+    let late = of_b.0 in
+    earlier_place a.listed.change.place b.listed.change.place a.listed.index b.listed.index (omega (arith, of_a, late))))
 
 -- ---- after the end of the walk no change helps
 

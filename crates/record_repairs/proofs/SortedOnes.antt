@@ -9,7 +9,7 @@ use Rattle.ref_tiles.specs.declared.rulebook.Rules.{Rules}
 use Rattle.gcg_read.specs.declared.events.Event.{Event}
 use Rattle.record_changes.specs.declared.slips.Change.{Change}
 use Rattle.record_repairs.specs.Costs.{is_earlier, is_ahead}
-use Rattle.record_repairs.specs.Candidates.{rank_in, IsCandidate, MayBeTold, AreAllOf, AreCandidates}
+use Rattle.record_repairs.specs.Candidates.{rank_in, IsCandidate, MayBeTold, IsBetween, AreBetween, AreCandidates}
 use Rattle.record_repairs.specs.declared.listed.Listed.{Listed}
 use Rattle.record_repairs.specs.declared.candidate.Candidate.{Candidate}
 use Rattle.record_repairs.proofs.Sorting.{sorted_pairs}
@@ -29,17 +29,17 @@ ahead_by a b (inl less) = or_left (nat_lt a.cost b.cost) (a.cost == b.cost && is
 ahead_by a b (inr (same, earlier)) =
     or_right (nat_lt a.cost b.cost) (a.cost == b.cost) (is_earlier (rank_in a) (rank_in b)) (eq-eqb a.cost b.cost same) earlier
 
-pub sorted_ones : (rules : Rules) (list : List (List ℕ)) (written : List Event) (plays : List Change) (below : Option ℕ) (last : ℕ) (old new : List Candidate) → ((l : Listed) → MayBeTold rules list written plays below l → l.change.place < last)
-    → AreAllOf rules list written plays below (λ l. l.change.place < last) old → IsPermutation old new → IsNonDecreasingBy (λ (c : Candidate). c.cost) new
-    → IsStableByKey (λ (c : Candidate). c.cost) nat_cmp old new → AreCandidates rules list written plays below new
-sorted_ones rules list written plays below last old new within are moved rises stable =
+pub sorted_ones : (rules : Rules) (list : List (List ℕ)) (written : List Event) (plays : List Change) (below : Option ℕ) (from last : ℕ) (old new : List Candidate) → ((l : Listed) → MayBeTold rules list written plays below l → l.change.place < last)
+    → AreBetween rules list written plays below from last old → IsPermutation old new → IsNonDecreasingBy (λ (c : Candidate). c.cost) new
+    → IsStableByKey (λ (c : Candidate). c.cost) nat_cmp old new → AreCandidates rules list written plays below from new
+sorted_ones rules list written plays below from last old new within are moved rises stable =
     record {
-      each = All-weaker (λ (c : Candidate). IsCandidate rules list written plays below c × (c.listed.change.place < last)) (IsCandidate rules list written plays below) (λ c both. both.0) new
-          (All-permutation (λ (c : Candidate). IsCandidate rules list written plays below c × (c.listed.change.place < last)) old new moved are.each);
+      each = All-weaker (λ (c : Candidate). IsCandidate rules list written plays below c × IsBetween from last c.listed.change.place) (IsCandidate rules list written plays below) (λ c both. both.0) new
+          (All-permutation (λ (c : Candidate). IsCandidate rules list written plays below c × IsBetween from last c.listed.change.place) old new moved are.each);
       ordered = λ i j d less inside.
           ahead_by (get_or new i d) (get_or new j d)
           (sorted_pairs (λ (a b : Candidate). is_earlier (rank_in a) (rank_in b) ≡ true) (λ (c : Candidate). c.cost) old new are.ordered rises stable i j d less inside);
-      all = λ l may.
-          let there = are.all l (within l may) may in
+      all = λ l late may.
+          let there = are.all l (late, within l may) may in
           record { candidate = there.candidate; among = Contains-permutation old new there.candidate moved there.among; same = there.same };
     }

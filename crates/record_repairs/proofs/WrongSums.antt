@@ -189,6 +189,7 @@ sheet_but (slip.Position s) place changed right = itself_but changed None
 sheet_but (slip.Spelling s) place changed right = itself_but changed None
 sheet_but (slip.Replayed play) place changed right = itself_but changed None
 sheet_but (slip.Tile of s) place changed right = itself_but changed None
+sheet_but (slip.Misread m) place changed right = itself_but changed None
 sheet_but slip.NoRack place changed right = itself_but changed None
 sheet_but (slip.Number n) place changed right = itself_but changed None
 sheet_but (slip.Code s) place changed right = itself_but changed None

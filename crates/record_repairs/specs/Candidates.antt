@@ -1,5 +1,5 @@
 -- The changes with which a record has a correction, and which of them are repairs.
-use Rattle.std.specs.Prelude.{◌≡◌, ℕ, ◌<◌, true, List, ◌++◌, All, AllPairs, Contains, Option}
+use Rattle.std.specs.Prelude.{◌≡◌, ℕ, ◌<◌, ◌≤◌, true, List, ◌++◌, All, AllPairs, Contains, Option}
 use Rattle.ref_tiles.specs.declared.rulebook.Rules.{Rules}
 use Rattle.gcg_read.specs.declared.events.Event.{Event}
 use Rattle.game_deal.specs.Verdicts.{IsGame}
@@ -40,9 +40,13 @@ pub record AreAllOf (rules : Rules) (list : List (List ℕ)) (written : List Eve
   pub ordered : AllPairs (λ (a b : Candidate). is_earlier (rank_in a) (rank_in b) ≡ true) found
   pub all : (listed : Listed) → Which listed → MayBeTold rules list written plays below listed → IsThere found listed
 
--- the candidates at the places before one
-abbrev pub AreBefore : Rules → (list : List (List ℕ)) → (written : List Event) → (plays : List Change) → (below : Option ℕ) → (end : ℕ) → List Candidate → Type 0
-AreBefore rules list written plays below end found = AreAllOf rules list written plays below (λ listed. listed.change.place < end) found
+-- a place from one on, and before another one
+abbrev pub IsBetween : (from end : ℕ) → (place : ℕ) → Type 0
+IsBetween from end place = (from ≤ place) × (place < end)
+
+-- the candidates at such places
+abbrev pub AreBetween : Rules → (list : List (List ℕ)) → (written : List Event) → (plays : List Change) → (below : Option ℕ) → (from end : ℕ) → List Candidate → Type 0
+AreBetween rules list written plays below from end found = AreAllOf rules list written plays below (λ listed. IsBetween from end listed.change.place) found
 
 -- the candidates among some changes come after those that were found
 pub record AddsAllOf (rules : Rules) (list : List (List ℕ)) (written : List Event) (plays : List Change) (below : Option ℕ) (Which : Listed → Type 0) (old new : List Candidate) : Type 0 where
@@ -58,8 +62,8 @@ AddsCandidates rules list written plays below place old new = AddsAllOf rules li
 abbrev pub AddsListed : Rules → (list : List (List ℕ)) → (written : List Event) → (plays : List Change) → (below : Option ℕ) → Listed → (old new : List Candidate) → Type 0
 AddsListed rules list written plays below one old new = AddsAllOf rules list written plays below (λ listed. listed ≡ one) old new
 
--- Candidates, in the order in which they are given: all that make a game, and maybe others.
-pub record AreCandidates (rules : Rules) (list : List (List ℕ)) (written : List Event) (plays : List Change) (below : Option ℕ) (found : List Candidate) : Type 0 where
+-- Candidates at the places from one on, in the order in which they are given: all that make a game, and maybe others.
+pub record AreCandidates (rules : Rules) (list : List (List ℕ)) (written : List Event) (plays : List Change) (below : Option ℕ) (from : ℕ) (found : List Candidate) : Type 0 where
   pub each : All (IsCandidate rules list written plays below) found
   pub ordered : AllPairs (λ (a b : Candidate). is_ahead (rank_in a) (rank_in b) ≡ true) found
-  pub all : (listed : Listed) → MayBeTold rules list written plays below listed → IsThere found listed
+  pub all : (listed : Listed) → from ≤ listed.change.place → MayBeTold rules list written plays below listed → IsThere found listed

@@ -94,15 +94,15 @@ pub record AreAhead (most : ℕ) (told : List Repair) (by : Rank) : Type 0 where
   pub many : length told ≡ most
   pub each : All (λ (r : Repair). is_ahead (rank_of r) by ≡ true) told
 
--- The first `most` repairs of a record, in their order. Each record that they make is made once, by the change that costs least, and
--- by the first of several such changes. A repair is left out only for such a one, or if `most` others are ahead, or if its deal is
--- left open.
-pub record AreFirstRepairs (rules : Rules) (list : List (List ℕ)) (written : List Event) (plays : List Change) (below : Option ℕ) (most : ℕ) (told : List Repair) (left : List Listed) : Type 0 where
+-- The first `most` repairs of a record at the places from one on, in their order. Each record that they make is made once, by the change
+-- that costs least, and by the first of several such changes. A repair at such a place is left out only for such a one, or if `most` others
+-- are ahead, or if its deal is left open. Nothing is said of the changes at the places before.
+pub record AreFirstRepairs (rules : Rules) (list : List (List ℕ)) (written : List Event) (plays : List Change) (below : Option ℕ) (from most : ℕ) (told : List Repair) (left : List Listed) : Type 0 where
   pub repairs : All (IsRepair rules list written plays below) told
   pub few : length told ≤ most
   pub ordered : AllPairs (λ (a b : Repair). is_ahead (rank_of a) (rank_of b) ≡ true) told
   pub once : AllPairs (λ (a b : Repair). SameRecord a.right b.right → ⊥) told
   pub unsettled : All (IsLeftOpen rules list written plays) left
-  pub others : (listed : Listed) (right : List Event) → MakesGame rules list written plays below listed right
+  pub others : (listed : Listed) (right : List Event) → from ≤ listed.change.place → MakesGame rules list written plays below listed right
       → Contains left listed ⊎ IsToldAt told right (rank_at (cost_of rules list listed.change written right) listed)
       ⊎ AreAhead most told (rank_at (cost_of rules list listed.change written right) listed)

@@ -1,4 +1,4 @@
-//! A change with which a record has a correction.
+//! Changes with which a record has a correction.
 
 use crate::listed::Listed;
 
@@ -9,4 +9,13 @@ pub(crate) struct Candidate {
     pub(crate) listed: Listed,
     /// What it costs.
     pub(crate) cost: u128,
+}
+
+/// The changes with which a record has a correction, from a place on.
+#[derive(Drop)]
+pub(crate) struct Candidates {
+    /// The changes.
+    pub(crate) found: Vec<Candidate>,
+    /// The first place that was tried.
+    pub(crate) from: usize,
 }

@@ -1,10 +1,10 @@
 //! The changes of a record with which it has a correction.
-ghost use Rattle.std.specs.Prelude.{◌≡◌, ℕ, ◌+◌, ◌<◌, ◌≤◌, List, Option, map, length, IsTrue, IfOk, OnOk};
+ghost use Rattle.std.specs.Prelude.{◌≡◌, ℕ, ◌+◌, ◌<◌, ◌≤◌, List, Option, None, map, length, IsTrue, IfOk, OnOk};
 ghost use Rattle.ref_tiles.specs.declared.rulebook.Rules.{Rules};
 ghost use Rattle.change_lists.specs.Changes.{change_at};
 ghost use Rattle.game_rows.specs.Walks.{IsWalkOf};
 ghost use Rattle.gcg_read.specs.declared.events.Event.{Event};
-ghost use Rattle.record_repairs.specs.Candidates.{AreBefore, AreCandidates, AddsCandidates, AddsListed, MayBeTold};
+ghost use Rattle.record_repairs.specs.Candidates.{AreBetween, AreCandidates, AddsCandidates, AddsListed, MayBeTold};
 ghost use Rattle.record_changes.specs.declared.slips.Change.{Change};
 ghost use Rattle.record_repairs.specs.Listing.{changes_with};
 ghost use Rattle.record_repairs.specs.Repairs.{IsListed};
@@ -12,12 +12,13 @@ ghost use Rattle.record_repairs.specs.Trying.{NoneFewer};
 ghost use Rattle.record_repairs.specs.RackStops.{IsStop};
 ghost use Rattle.record_repairs.specs.declared.listed.Listed.{Listed};
 
-use crate::candidate::Candidate;
+use crate::candidate::{Candidate, Candidates};
 use crate::counting::behind_rows;
 use crate::listed::Listed;
 use crate::rack_stops::{RackStop, rack_stop};
 use crate::rooms::is_full;
 use crate::standing::game_before;
+use crate::steps::{is_over, spend};
 use crate::trying::weigh;
 use crate::with_plays::slips_with;
 use change_lists::law_of_slips;
@@ -39,6 +40,7 @@ fn push_listed(
     below: Option<usize>,
     stop: &Option<RackStop>,
     listed: Listed,
+    spent: &mut u64,
 ) -> Result<(), AllocError>
     requires walk { IsWalkOf rules.now list.now events.now walk.now }
     requires stop { IsStop rules.now list.now events.now stop.now }
@@ -54,6 +56,7 @@ fn push_listed(
         below,
         stop,
         &listed.change,
+        spent,
     )?
     else {
         return Ok(());
@@ -74,6 +77,7 @@ fn push_slips(
     stop: &Option<RackStop>,
     place: usize,
     slips: Vec<Slip>,
+    spent: &mut u64,
 ) -> Result<(), AllocError>
     requires walk { IsWalkOf rules.now list.now events.now walk.now }
     requires stop { IsStop rules.now list.now events.now stop.now }
@@ -85,7 +89,9 @@ fn push_slips(
     for slip in slips {
         let change = Change { place, slip };
         let listed = Listed { change, index };
-        push_listed(alloc, found, rules, list, walk, events, below, stop, listed)?;
+        push_listed(
+            alloc, found, rules, list, walk, events, below, stop, listed, spent,
+        )?;
         index += 1;
     }
     Ok(())
@@ -122,12 +128,14 @@ fn push_candidates(
     below: Option<usize>,
     stop: &Option<RackStop>,
     place: usize,
+    spent: &mut u64,
 ) -> Result<(), AllocError>
     requires walk { IsWalkOf rules.now list.now events.now walk.now }
     requires stop { IsStop rules.now list.now events.now stop.now }
     requires place { place ≤ length walk.now.rows.items }
     ensures { OnOk result (AddsCandidates rules.now list.now events.now plays.now below place found.old.items found.new.items) }
 {
+    spend(spent, place);
     if is_past_room(list, walk, events, below, place) {
         return Ok(());
     }
@@ -137,12 +145,13 @@ fn push_candidates(
     };
     let slips = slips_with(alloc, rules, game, events, plays, place)?;
     push_slips(
-        alloc, found, rules, list, walk, events, below, stop, place, slips,
+        alloc, found, rules, list, walk, events, below, stop, place, slips, spent,
     )
 }
 
 /// The changes before place `end` with which the record has a correction that leaves few enough numbers and words wrong, in the order of
-/// the list. Some of those with which it makes no game are left out.
+/// the list. Some of those with which it makes no game are left out. The last places are tried first; where a limit is given, those before
+/// are not tried once so many steps are taken.
 fn candidates_before(
     alloc: Global,
     rules: &Rules,
@@ -153,19 +162,39 @@ fn candidates_before(
     below: Option<usize>,
     stop: &Option<RackStop>,
     end: usize,
-) -> Result<Vec<Candidate>, AllocError>
+    limit: Option<u64>,
+) -> Result<Candidates, AllocError>
     requires walk { IsWalkOf rules.now list.now events.now walk.now }
     requires stop { IsStop rules.now list.now events.now stop.now }
     requires end { end ≤ length walk.now.rows.items + 1 }
-    ensures { IfOk result (λ found. AreBefore rules.now list.now events.now plays.now below end found.items) }
+    ensures found { IfOk result (λ c. AreBetween rules.now list.now events.now plays.now below c.from end c.found.items) }
+    ensures all { IfOk result (λ c. limit ≡ None → c.from ≡ 0) }
 {
+    let mut spent = 0;
     let mut found = Vec::new(alloc);
-    for place in 0..end {
+    for behind in 0..end {
+        let from = end - behind;
+        if is_over(limit, spent) {
+            return Ok(Candidates { found, from });
+        }
+        let mut here = Vec::new(alloc);
         push_candidates(
-            alloc, &mut found, rules, list, walk, events, plays, below, stop, place,
+            alloc,
+            &mut here,
+            rules,
+            list,
+            walk,
+            events,
+            plays,
+            below,
+            stop,
+            from - 1,
+            &mut spent,
         )?;
+        here.append(&mut found)?;
+        found = here;
     }
-    Ok(found)
+    Ok(Candidates { found, from: 0 })
 }
 
 /// How many places have a change that makes a game: up to the event at which the walk stops, and up to the one after those whose racks no
@@ -185,7 +214,8 @@ fn many_places(walk: &Walk, stop: &Option<RackStop>) -> usize
 }
 
 /// The changes of a record with which it has a correction that leaves few enough numbers and words wrong: those that cost least first,
-/// and those of equal cost in the order of the list. Some of those with which it makes no game are left out.
+/// and those of equal cost in the order of the list. Some of those with which it makes no game are left out. Without a limit all places are
+/// tried.
 ///
 /// It fails only if memory runs out.
 pub(crate) fn all_candidates(
@@ -196,13 +226,17 @@ pub(crate) fn all_candidates(
     events: &[Event],
     plays: &[Change],
     below: Option<usize>,
-) -> Result<Vec<Candidate>, AllocError>
+    limit: Option<u64>,
+) -> Result<Candidates, AllocError>
     requires { IsWalkOf rules.now list.now events.now walk.now }
-    ensures { IfOk result (λ found. AreCandidates rules.now list.now events.now plays.now below found.items) }
+    ensures found { IfOk result (λ c. AreCandidates rules.now list.now events.now plays.now below c.from c.found.items) }
+    ensures all { IfOk result (λ c. limit ≡ None → c.from ≡ 0) }
 {
     let stop = rack_stop(alloc, rules, walk, events)?;
     let end = many_places(walk, &stop);
-    let mut found = candidates_before(alloc, rules, list, walk, events, plays, below, &stop, end)?;
-    found.sort_by_key(|candidate| candidate.cost)?;
-    Ok(found)
+    let mut all = candidates_before(
+        alloc, rules, list, walk, events, plays, below, &stop, end, limit,
+    )?;
+    all.found.sort_by_key(|candidate| candidate.cost)?;
+    Ok(all)
 }

@@ -1,5 +1,5 @@
 //! The repairs of a record.
-ghost use Rattle.std.specs.Prelude.{◌≡◌, List, IfOk, OnOk};
+ghost use Rattle.std.specs.Prelude.{◌≡◌, List, None, IfOk, OnOk};
 ghost use Rattle.record_changes.specs.declared.slips.Change.{Change};
 ghost use Rattle.record_repairs.specs.Candidates.{AreCandidates};
 ghost use Rattle.record_repairs.specs.Repairs.{AreFirstRepairs};
@@ -22,14 +22,17 @@ fn first_repairs(
     events: &[Event],
     below: Option<usize>,
     found: Vec<Candidate>,
+    from: usize,
     most: usize,
 ) -> Result<Found, AllocError>
-    ensures { IfOk result (λ r. (plays : List Change) → AreCandidates rules.now list.now events.now plays below found.items
-        → AreFirstRepairs rules.now list.now events.now plays below most r.told.items r.left.items) }
+    ensures told { IfOk result (λ r. (plays : List Change) → AreCandidates rules.now list.now events.now plays below from found.items
+        → AreFirstRepairs rules.now list.now events.now plays below r.from most r.told.items r.left.items) }
+    ensures from { IfOk result (λ r. r.from ≡ from) }
 {
     let mut first = Found {
         told: Vec::new(alloc),
         left: Vec::new(alloc),
+        from,
     };
     for candidate in found {
         if first.told.len() == most {
@@ -44,6 +47,9 @@ fn first_repairs(
 /// corrected. `plays` are more changes, those of plays that a generator found: they come after those of the list at each place. If
 /// `below` is given, fewer numbers and words stay wrong with each. After the call the events are as they were.
 ///
+/// Without a limit the changes at all places are tried. With one, the search ends at a place once it took so many steps, about as many as
+/// the events that it went over; the last places are tried first, and the answer has the first one that was tried.
+///
 /// It fails only if memory runs out.
 pub fn repairs(
     alloc: Global,
@@ -53,11 +59,31 @@ pub fn repairs(
     plays: &[Change],
     below: Option<usize>,
     most: usize,
+    limit: Option<u64>,
 ) -> Result<Found, AllocError>
-    ensures told { IfOk result (λ r. AreFirstRepairs rules.now list.now events.old plays.now below most r.told.items r.left.items) }
+    ensures told { IfOk result (λ r. AreFirstRepairs rules.now list.now events.old plays.now below r.from most r.told.items r.left.items) }
+    ensures all { IfOk result (λ r. limit ≡ None → r.from ≡ 0) }
     ensures same { OnOk result (events.new ≡ events.old) }
 {
     let walk = walk_as_written(alloc, rules, list, events)?;
-    let found = all_candidates(alloc, rules, list, &walk, events.as_slice(), plays, below)?;
-    first_repairs(alloc, rules, list, events.as_slice(), below, found, most)
+    let all = all_candidates(
+        alloc,
+        rules,
+        list,
+        &walk,
+        events.as_slice(),
+        plays,
+        below,
+        limit,
+    )?;
+    first_repairs(
+        alloc,
+        rules,
+        list,
+        events.as_slice(),
+        below,
+        all.found,
+        all.from,
+        most,
+    )
 }

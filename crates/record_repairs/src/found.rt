@@ -1,5 +1,5 @@
 //! What repairs a record.
-ghost use Rattle.std.specs.Prelude.{OnOk};
+ghost use Rattle.std.specs.Prelude.{◌≡◌, OnOk};
 ghost use Rattle.record_changes.specs.Applied.{applied};
 ghost use Rattle.record_repairs.specs.Trying.{IsWritable};
 
@@ -24,6 +24,9 @@ pub struct Found {
     /// The changes for which it is not known whether they are repairs, since neither a deal nor a proof that there is none was
     /// found.
     pub left: Vec<Listed>,
+    /// The first place whose changes were tried, counted from 0. Where the changes of a record take more steps than they may, those at the first places
+    /// are not tried.
+    pub from: usize,
 }
 
 impl Found {
@@ -40,7 +43,8 @@ impl Found {
         right: Events,
     ) -> Result<(), AllocError>
         requires { IsWritable rules.now list.now (applied listed.change events.now) right }
-        ensures { OnOk result (IsTriedWith rules.now list.now events.now listed right self.old self.new) }
+        ensures tried { OnOk result (IsTriedWith rules.now list.now events.now listed right self.old self.new) }
+        ensures from { OnOk result (self.new.from ≡ self.old.from) }
     {
         if is_among(self.told.as_slice(), right.as_slice()) {
             return Ok(());
@@ -78,7 +82,8 @@ impl Found {
         events: &[Event],
         candidate: Candidate,
     ) -> Result<(), AllocError>
-        ensures { OnOk result (IsTried rules.now list.now events.now candidate self.old self.new) }
+        ensures tried { OnOk result (IsTried rules.now list.now events.now candidate self.old self.new) }
+        ensures from { OnOk result (self.new.from ≡ self.old.from) }
     {
         match corrected(alloc, rules, list, &candidate.listed.change, events)? {
             Some(right) => self.push_right(alloc, rules, list, events, candidate.listed, right),

@@ -28,6 +28,7 @@ mod rooms;
 mod settling;
 mod sheets;
 mod standing;
+mod steps;
 mod trying;
 mod with_plays;
 

@@ -18,6 +18,7 @@ use crate::rack_stops::{RackStop, are_stopped, first_steps};
 use crate::remaining::what_remains;
 use crate::rooms::is_full;
 use crate::standing::{game_before, start_of};
+use crate::steps::spend;
 use game_rows::Walk;
 use game_turns::{Machine, law_of_tallies};
 use gcg_read::{Event, Events};
@@ -25,6 +26,20 @@ use lex_list::WordList;
 use record_changes::{Change, apply, law_of_changes};
 use ref_tiles::Rules;
 use std::alloc::{AllocError, Global};
+
+/// How often the record is gone over to weigh a change: to correct it, and to see which numbers and words stay wrong.
+const TIMES_WEIGHED: usize = 3;
+
+/// About as often as it takes as long to look for a deal.
+const TIMES_SETTLED: usize = 20;
+
+/// About how many events are gone over near a change; where the racks of a record stop, their bounds are looked at too.
+fn nearby_steps(stop: &Option<RackStop>) -> usize {
+    match stop {
+        Some(stop) => stop.end / 8 + 8,
+        None => 8,
+    }
+}
 
 /// Goes on from a place with a machine that is before it, gives each event its right numbers, and adds the steps that come next. It is
 /// false if an event is refused whatever its numbers are, and if more numbers and words are wrong from there on than there is room for.
@@ -38,6 +53,7 @@ fn goes_on(
     missing: Option<usize>,
     room: Option<usize>,
     first: &mut FirstSteps,
+    spent: &mut u64,
 ) -> Result<bool, AllocError>
     requires game { StandsBefore (rules_of game.now) list.now events.old start game.now }
     requires missing { (k : ℕ) → missing ≡ Some k → start ≤ k }
@@ -56,6 +72,7 @@ fn goes_on(
         if is_full(room) {
             return Ok(false);
         }
+        spend(spent, 1);
         first.note(&machine, events.as_slice(), place)?;
         let written = line_at(events, place);
         if mend(&mut machine, events, place, list).is_err() {
@@ -81,6 +98,7 @@ fn may_be_told(
     below: Option<usize>,
     stop: &Option<RackStop>,
     change: &Change,
+    spent: &mut u64,
 ) -> Result<bool, AllocError>
     requires walk { IsWalkOf rules.now list.now events.now walk.now }
     requires stop { IsStop rules.now list.now events.now stop.now }
@@ -99,7 +117,16 @@ fn may_be_told(
         return Ok(true);
     };
     let mut first = first_steps(alloc, stop, start)?;
-    if !goes_on(game, &mut changed, start, list, missing, room, &mut first)? {
+    if !goes_on(
+        game,
+        &mut changed,
+        start,
+        list,
+        missing,
+        room,
+        &mut first,
+        spent,
+    )? {
         return Ok(false);
     }
     Ok(!are_stopped(rules, stop, first.steps.as_slice()))
@@ -129,17 +156,20 @@ pub(crate) fn weigh(
     below: Option<usize>,
     stop: &Option<RackStop>,
     change: &Change,
+    spent: &mut u64,
 ) -> Result<Option<u128>, AllocError>
     requires walk { IsWalkOf rules.now list.now events.now walk.now }
     requires stop { IsStop rules.now list.now events.now stop.now }
     ensures { IfOk result (IsWeight rules.now list.now events.now below change.now) }
 {
+    spend(spent, nearby_steps(stop));
     if fails_nearby(alloc, rules, list, walk, events, stop, change)? {
         return Ok(None);
     }
-    if !may_be_told(alloc, rules, list, walk, events, below, stop, change)? {
+    if !may_be_told(alloc, rules, list, walk, events, below, stop, change, spent)? {
         return Ok(None);
     }
+    spend(spent, events.len().saturating_mul(TIMES_WEIGHED));
     let Some(right) = corrected(alloc, rules, list, change, events)? else {
         return Ok(None);
     };
@@ -147,5 +177,6 @@ pub(crate) fn weigh(
     if !are_fewer(below, left.many()) {
         return Ok(None);
     }
+    spend(spent, events.len().saturating_mul(TIMES_SETTLED));
     Ok(Some(left.cost(&change.slip)))
 }

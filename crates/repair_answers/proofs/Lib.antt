@@ -8,3 +8,4 @@ pub mod Tries
 pub mod Wanted
 pub mod Answered
 pub mod LikelyOnes
+pub mod LinesFound

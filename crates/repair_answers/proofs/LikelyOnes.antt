@@ -6,7 +6,6 @@ use Rattle.game_rows.specs.declared.walking.Walk.{Walk}
 use Rattle.game_rows.specs.Walks.{IsWalkOf}
 use Rattle.play_changes.specs.PlayChanges.{ArePlayChanges}
 use Rattle.record_changes.specs.declared.slips.Change.{Change}
-use Rattle.record_repairs.specs.Repairs.{AreFirstRepairs}
 use Rattle.record_repairs.specs.declared.found.Found.{Found}
 use Rattle.record_repairs.specs.declared.repair.Repair.{Repair}
 use Rattle.repair_pairs.specs.Pairs.{ArePairs}
@@ -14,8 +13,10 @@ use Rattle.repair_pairs.specs.declared.found.Pair.{Pair}
 use Rattle.repair_pairs.specs.declared.found.Pairs.{Pairs}
 use Rattle.repair_answers.specs.Answers.{below_of}
 use Rattle.repair_answers.specs.Amounts.{IsAmountOf, IsAmount}
+use Rattle.repair_answers.specs.Choices.{all_known}
 use Rattle.repair_answers.specs.Likely.{IsLikelyOf, IsLikely}
 use Rattle.repair_answers.specs.Sheets.{sheet_room, slips_tried, AreSheetRepairs}
+use Rattle.repair_answers.specs.Trades.{AreTold}
 use Rattle.repair_answers.specs.Unchanged.{IsUnchanged}
 use Rattle.repair_answers.specs.declared.numbers_alone.NumbersAlone.{NumbersAlone}
 use Rattle.repair_answers.specs.declared.sheet_repair.SheetRepair.{SheetRepair}
@@ -24,8 +25,8 @@ use Rattle.repair_answers.specs.declared.likely.Likely.{Likely}
 pub likely_of : (rules : Rules) (list words : List (List ℕ)) (text : List ℕ) (written now walked then last : List Event) (numbers : Option NumbersAlone) (below : Option ℕ) (walk : Walk) (plays : List Change)
     (found : Found) (singles : List Repair) (two : Pairs) (pairs : List Pair) (sheets : List SheetRepair) (likely : Option Likely) → words ≡ list → now ≡ written → walked ≡ now → then ≡ walked
     → last ≡ then → IsUnchanged rules words written numbers → below ≡ below_of numbers → IsWalkOf rules words now walk → ArePlayChanges walked walk plays
-    → AreFirstRepairs rules list walked plays below 4 found.told.items found.left.items → singles ≡ found.told.items → ArePairs rules words then singles 1 two → pairs ≡ two.told.items
-    → AreSheetRepairs rules words text last (sheet_room numbers) (slips_tried text last walk) sheets → IsLikelyOf numbers found.told.items found.left.items pairs sheets likely
+    → AreTold rules list walked numbers plays below found.from 4 found.told.items found.left.items → singles ≡ found.told.items → ArePairs rules words then singles 1 two → pairs ≡ two.told.items
+    → AreSheetRepairs rules words text last (sheet_room numbers) (slips_tried text last walk) sheets → IsLikelyOf numbers found.told.items (all_known found.left.items found.from) pairs sheets likely
     → IsLikely rules list text written likely
 likely_of rules list words text written now walked then last numbers below walk plays found singles two pairs sheets likely is_list same still same_too kept alone by of_walk are_plays repairs are_singles are_pairs
     are_told are_sheets chosen =
@@ -40,8 +41,9 @@ likely_of rules list words text written now walked then last numbers below walk 
       are_plays = subst (λ (es : List Event). ArePlayChanges es walk plays) here are_plays;
       told = found.told.items;
       left = found.left.items;
-      repairs = subst (λ (b : Option ℕ). AreFirstRepairs rules list written plays b 4 found.told.items found.left.items) by
-          (subst (λ (es : List Event). AreFirstRepairs rules list es plays below 4 found.told.items found.left.items) here repairs);
+      from = found.from;
+      repairs = subst (λ (b : Option ℕ). AreTold rules list written numbers plays b found.from 4 found.told.items found.left.items) by
+          (subst (λ (es : List Event). AreTold rules list es numbers plays below found.from 4 found.told.items found.left.items) here repairs);
       two = two;
       pairs = subst (λ (ws : List (List ℕ)). ArePairs rules ws written found.told.items 1 two) is_list
           (subst (λ (es : List Event). ArePairs rules words es found.told.items 1 two) (same_too ∙ here)
@@ -49,13 +51,13 @@ likely_of rules list words text written now walked then last numbers below walk 
       sheets = sheets;
       are_sheets = subst (λ (ws : List (List ℕ)). AreSheetRepairs rules ws text written (sheet_room numbers) (slips_tried text written walk) sheets) is_list
           (subst (λ (es : List Event). AreSheetRepairs rules words text es (sheet_room numbers) (slips_tried text es walk) sheets) there are_sheets);
-      chosen = subst (λ (ps : List Pair). IsLikelyOf numbers found.told.items found.left.items ps sheets likely) are_told chosen;
+      chosen = subst (λ (ps : List Pair). IsLikelyOf numbers found.told.items (all_known found.left.items found.from) ps sheets likely) are_told chosen;
     }
 
 -- the same for a repair of a bonus or a penalty
 pub amount_of : (rules : Rules) (list words here_words : List (List ℕ)) (written now walked : List Event) (numbers : Option NumbersAlone) (below : Option ℕ) (walk : Walk) (plays : List Change)
     (found : Found) (amount : Option Repair) → words ≡ list → here_words ≡ list → now ≡ written → walked ≡ now → IsUnchanged rules words written numbers → below ≡ below_of numbers
-    → IsWalkOf rules here_words now walk → ArePlayChanges walked walk plays → AreFirstRepairs rules list walked plays below 1 found.told.items found.left.items
+    → IsWalkOf rules here_words now walk → ArePlayChanges walked walk plays → AreTold rules list walked numbers plays below found.from 1 found.told.items found.left.items
     → IsAmountOf numbers found.told.items amount → IsAmount rules list written amount
 amount_of rules list words here_words written now walked numbers below walk plays found amount is_list is_here same still alone by of_walk are_plays repairs chosen =
     let here : walked ≡ written = still ∙ same in
@@ -68,7 +70,8 @@ amount_of rules list words here_words written now walked numbers below walk play
       are_plays = subst (λ (es : List Event). ArePlayChanges es walk plays) here are_plays;
       told = found.told.items;
       left = found.left.items;
-      repairs = subst (λ (b : Option ℕ). AreFirstRepairs rules list written plays b 1 found.told.items found.left.items) by
-          (subst (λ (es : List Event). AreFirstRepairs rules list es plays below 1 found.told.items found.left.items) here repairs);
+      from = found.from;
+      repairs = subst (λ (b : Option ℕ). AreTold rules list written numbers plays b found.from 1 found.told.items found.left.items) by
+          (subst (λ (es : List Event). AreTold rules list es numbers plays below found.from 1 found.told.items found.left.items) here repairs);
       chosen = chosen;
     }

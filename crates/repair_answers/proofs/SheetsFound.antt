@@ -137,12 +137,11 @@ sorted_ones rules list text written room slips old new are moved rises stable =
           record { repair = there.repair; among = Contains-permutation old new there.repair moved there.among; same = there.same };
     }
 
--- the slips of the whole sheet of a record, by what was found among those that are tried
+-- the slips of the whole sheet of a record, by those that are tried
 pub sheets_of : (rules : Rules) (list : List (List ℕ)) (text : List ℕ) (written : List Event) (walk : Walk) (alone : Option NumbersAlone) (room places : ℕ) (slips shown : List SheetSlip)
-    (old new : List SheetRepair) → room ≡ sheet_room alone → places ≡ slip_places written walk → slips ≡ sheet_slips text written places → shown ≡ slips
-    → AreFoundTo rules list text written room shown (length shown) old → IsPermutation old new → IsNonDecreasingBy (λ (r : SheetRepair). r.cost) new
-    → IsStableByKey (λ (r : SheetRepair). r.cost) nat_cmp old new → AreSheetRepairs rules list text written (sheet_room alone) (slips_tried text written walk) new
-sheets_of rules list text written walk alone room places slips shown old new is_room are_places are_slips are_shown found moved rises stable =
+    (found : List SheetRepair) → AreSheetRepairs rules list text written room shown found → room ≡ sheet_room alone → places ≡ slip_places written walk
+    → slips ≡ sheet_slips text written places → shown ≡ slips → AreSheetRepairs rules list text written (sheet_room alone) (slips_tried text written walk) found
+sheets_of rules list text written walk alone room places slips shown found are is_room are_places are_slips are_shown =
     let all : shown ≡ slips_tried text written walk = are_shown ∙ are_slips ∙ ap (sheet_slips text written) are_places in
-    subst (λ (n : ℕ). AreSheetRepairs rules list text written n (slips_tried text written walk) new) is_room
-    (subst (λ (ss : List SheetSlip). AreSheetRepairs rules list text written room ss new) all (sorted_ones rules list text written room shown old new found moved rises stable))
+    subst (λ (n : ℕ). AreSheetRepairs rules list text written n (slips_tried text written walk) found) is_room
+    (subst (λ (ss : List SheetSlip). AreSheetRepairs rules list text written room ss found) all are)

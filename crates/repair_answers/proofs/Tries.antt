@@ -1,19 +1,20 @@
--- How many changes of a record are tried, place after place.
-use Rattle.std.proofs.Common.{◌≡◌, ℕ, ◌+◌, List, length, refl, sym, ap, ◌∙◌}
+-- How many changes a record has, place after place.
+use Rattle.std.proofs.Common.{◌≡◌, ℕ, ◌+◌, ◌*◌, ◌≤◌, Bool, List, length, Option, Some, None, refl, sym, ap, ◌∙◌}
+use Rattle.std.specs.Prelude.{if◌then◌else◌}
+use Rattle.std.proofs.lemmas.Bool.{le-leb}
 use Rattle.std.specs.List.{flat_map, range_with_len}
 use Rattle.std.proofs.lemmas.List.{length-map}
 use Rattle.ref_tiles.specs.declared.rulebook.Rules.{Rules}
 use Rattle.gcg_read.specs.declared.events.Event.{Event}
 use Rattle.game_turns.specs.declared.machine.Machine.{Machine}
 use Rattle.game_turns.specs.Machines.{state_of}
-use Rattle.game_rows.specs.declared.walking.Walk.{Walk}
 use Rattle.record_changes.specs.declared.slips.Change.{Change}
 use Rattle.record_changes.specs.declared.slips.Slip.{Slip}
 use Rattle.change_lists.specs.Changes.{slips_by, change_at, changes_at}
 use Rattle.change_lists.specs.Laws.{SlipsAreByBoard}
 use Rattle.record_repairs.specs.Trying.{StandsBefore}
 use Rattle.record_repairs.proofs.PlaceChanges.{listed_here}
-use Rattle.repair_answers.specs.Tried.{tried_changes}
+use Rattle.repair_answers.specs.Tried.{many_before, limit_for}
 use Rattle.repair_answers.proofs.Ranges.{lists_more}
 
 -- as many changes as slips
@@ -21,10 +22,6 @@ pub many_here : SlipsAreByBoard → (rules : Rules) (list : List (List ℕ)) (wr
     → slips ≡ slips_by rules (state_of machine) written place → length slips ≡ length (changes_at rules written place)
 many_here law rules list written place machine slips at is =
     sym (length-map slips (change_at place)) ∙ ap (λ (cs : List Change). length cs) (listed_here law rules list written place machine slips at is)
-
--- how many changes there are at the places before one
-unfoldable pub many_before : Rules → List Event → (place : ℕ) → ℕ
-many_before rules events place = length (flat_map (changes_at rules events) (range_with_len 0 place))
 
 pub none_before : (rules : Rules) (events : List Event) → 0 ≡ many_before rules events 0
 unfolding many_before
@@ -36,7 +33,7 @@ unfolding many_before
 many_more rules events place many here so_far is =
     ap (λ n. n + here) so_far ∙ ap (λ n. length (flat_map (changes_at rules events) (range_with_len 0 place)) + n) is ∙ sym (lists_more (changes_at rules events) place)
 
-pub all_tried : (rules : Rules) (events : List Event) (walk : Walk) (place many : ℕ) → many ≡ many_before rules events place → place ≡ length walk.rows.items + 1
-    → many ≡ length (tried_changes rules events walk)
-unfolding many_before tried_changes
-all_tried rules events walk place many so_far is = so_far ∙ ap (λ n. length (flat_map (changes_at rules events) (range_with_len 0 n))) is
+-- few changes have no limit
+pub no_limit : (many all events : ℕ) (limit : Option ℕ) → limit ≡ limit_for many events → many ≡ all → all * events ≤ 4000000 → limit ≡ None
+no_limit many all events limit is same few =
+    is ∙ ap (λ n. limit_for n events) same ∙ ap (λ (b : Bool). if b then None else Some 4000000) (le-leb (all * events) 4000000 few)

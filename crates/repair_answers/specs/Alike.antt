@@ -11,6 +11,8 @@ use Rattle.record_changes.specs.declared.slips.TileSlip.{TileSlip}
 use Rattle.record_changes.specs.declared.slips.TileSlip.TheVariants as tile
 use Rattle.record_changes.specs.declared.slips.TilesOf.{TilesOf}
 use Rattle.record_changes.specs.declared.slips.TilesOf.TheVariants as tiles
+use Rattle.record_changes.specs.declared.slips.Misread.{Misread}
+use Rattle.record_changes.specs.declared.slips.Misread.TheVariants as misread
 use Rattle.record_changes.specs.declared.slips.CodeSlip.{CodeSlip}
 use Rattle.record_changes.specs.declared.slips.CodeSlip.TheVariants as code
 use Rattle.record_changes.specs.declared.slips.MissingLine.{MissingLine}
@@ -44,6 +46,12 @@ like_tile (tile.Extra one) (tile.Extra other) = true
 like_tile (tile.Missing one) (tile.Missing other) = true
 like_tile one other = false
 
+-- the same tile is misread twice
+abbrev pub like_misread : Misread → Misread → Bool
+like_misread (misread.Played place written right) (misread.Played at one other) = place == at
+like_misread (misread.Exchanged written right) (misread.Exchanged one other) = same_tile written one
+like_misread one other = false
+
 abbrev pub like_code : CodeSlip → CodeSlip → Bool
 like_code (code.Exchange many) (code.Exchange others) = true
 like_code one other = false
@@ -56,6 +64,7 @@ like_missing one other = false
 abbrev pub like_slip : Slip → Slip → Bool
 like_slip (slip.Spelling one) (slip.Spelling other) = like_spelling one other
 like_slip (slip.Tile of one) (slip.Tile whose other) = same_use of whose && like_tile one other
+like_slip (slip.Misread one) (slip.Misread other) = like_misread one other
 like_slip (slip.Number many) (slip.Number others) = true
 like_slip (slip.Code one) (slip.Code other) = like_code one other
 like_slip (slip.Missing line) (slip.Missing other) = like_missing line other

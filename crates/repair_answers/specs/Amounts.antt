@@ -12,12 +12,12 @@ use Rattle.record_changes.specs.declared.slips.Slip.{Slip}
 use Rattle.record_changes.specs.declared.slips.Slip.TheVariants as slip
 use Rattle.record_changes.specs.declared.slips.MissingLine.TheVariants as line
 use Rattle.record_changes.specs.declared.slips.MissingLine.{MissingLine}
-use Rattle.record_repairs.specs.Repairs.{AreFirstRepairs}
 use Rattle.record_repairs.specs.declared.listed.Listed.{Listed}
 use Rattle.record_repairs.specs.declared.repair.Repair.{Repair}
 use Rattle.repair_answers.specs.Alike.{cost_in}
 use Rattle.repair_answers.specs.Answers.{below_of}
 use Rattle.repair_answers.specs.Choices.{alone_cost}
+use Rattle.repair_answers.specs.Trades.{AreTold}
 use Rattle.repair_answers.specs.Unchanged.{IsUnchanged}
 use Rattle.repair_answers.specs.declared.numbers_alone.NumbersAlone.{NumbersAlone}
 use Rattle.repair_answers.specs.declared.sheet_amounts.SheetAmount.{SheetAmount}
@@ -47,7 +47,8 @@ abbrev pub IsAmountOf : Option NumbersAlone → (told : List Repair) → Option 
 IsAmountOf alone [] amount = amount ≡ None
 IsAmountOf alone (first ∷ rest) amount = amount ≡ (if explains alone first then Some first else None)
 
--- The first repair of a record, if it is one of a bonus or a penalty and costs less than correcting only the numbers.
+-- The first repair of a record, if it is one of a bonus or a penalty and costs less than correcting only the numbers. The changes at the first places of a
+-- long record may not have been tried.
 pub record IsAmount (rules : Rules) (list : List (List ℕ)) (written : List Event) (amount : Option Repair) : Type 0 where
   pub numbers : Option NumbersAlone
   pub alone : IsUnchanged rules list written numbers
@@ -57,7 +58,8 @@ pub record IsAmount (rules : Rules) (list : List (List ℕ)) (written : List Eve
   pub are_plays : ArePlayChanges written walk plays
   pub told : List Repair
   pub left : List Listed
-  pub repairs : AreFirstRepairs rules list written plays (below_of numbers) 1 told left
+  pub from : ℕ
+  pub repairs : AreTold rules list written numbers plays (below_of numbers) from 1 told left
   pub chosen : IsAmountOf numbers told amount
 
 -- that of a record, with the record

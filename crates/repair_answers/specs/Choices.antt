@@ -104,7 +104,7 @@ is_on line (Some e) = e.line == line
 -- A repair says less than that a line is not read, if a line is missing where that line is.
 abbrev pub says_less_than : SheetSlip → (right : List Event) → Repair → Bool
 says_less_than (sheet.Unread unread) right repair = is_missing repair.listed.change.slip && is_on unread.line (slice_get right repair.listed.change.place)
-says_less_than (sheet.Running place s) right repair = false
+says_less_than other right repair = false
 
 -- a slip of the whole sheet is ahead of a repair by at least a wrong number, or the repair says less and costs no less
 abbrev pub IsAheadOfRepair : SheetRepair → Repair → Type 0
@@ -162,18 +162,23 @@ abbrev pub IsNearNumbers : (told : List Repair) → Option NumbersAlone → Type
 IsNearNumbers [] alone = ⊥
 IsNearNumbers (first ∷ rest) alone = IsAheadOfNumbers alone first → ⊥
 
--- Which of the repairs that were found is to be chosen, if one is: none if some change is left open, and none if two changes or the numbers alone
+-- Whether each change was tried, and is known to be a repair or not.
+abbrev pub all_known : (left : List Listed) → (from : ℕ) → Bool
+all_known [] from = from == 0
+all_known (listed ∷ rest) from = false
+
+-- Which of the repairs that were found is to be chosen, if one is: none if some change is left open or was not tried, and none if two changes or the numbers alone
 -- are as likely, or a slip of the whole sheet is. Correcting only the numbers is chosen if it is ahead of all of them and known to make a game; and a slip
 -- of the whole sheet, if it is ahead of all else and known to make a game of which every number is right.
-abbrev pub IsChoice : (told : List Repair) → (left : List Listed) → (pairs : List Pair) → (sheets : List SheetRepair) → Option NumbersAlone → Choice → Type 0
-IsChoice told left pairs sheets alone choice.None = (left ≡ []) × (told ≡ []) × (alone ≡ None) × (sheets ≡ [])
-IsChoice told left pairs sheets alone choice.Open = (left ≡ [] → ⊥) ⊎ (Lead alone told pairs × IsGameAlone alone false × IsNoneChosen told pairs alone sheets) ⊎ IsSheetOpen told pairs alone sheets
-IsChoice told left pairs sheets alone choice.Numbers = (left ≡ []) × Lead alone told pairs × IsGameAlone alone true × AreNumbersBelow alone sheets
-IsChoice told left pairs sheets alone choice.Pair = (left ≡ []) × (Lead alone told pairs → ⊥) × IsPairAhead told pairs alone × IsNoneChosen told pairs alone sheets
-IsChoice told left pairs sheets alone choice.NearNumbers = (left ≡ []) × (Lead alone told pairs → ⊥) × IsNearNumbers told alone × IsNoneChosen told pairs alone sheets
-IsChoice told left pairs sheets alone choice.Close = (left ≡ []) × AreClose told × IsNoneChosen told pairs alone sheets
-IsChoice told left pairs sheets alone (choice.Clear repair) =
-    (left ≡ []) × IsFirst told repair.now × (HasRival repair.now pairs → ⊥) × IsAheadOfNumbers alone repair.now × IsFarBelowSheets (cost_in repair.now) sheets
-IsChoice told left pairs sheets alone (choice.Sheet s) = (left ≡ []) × IsSheetChosen told pairs alone sheets s.now
-IsChoice told left pairs sheets alone choice.NearSheet =
-    (left ≡ []) × (sheets ≡ [] → ⊥) × IsNoneChosen told pairs alone sheets × IsNoneBelow told sheets × (AreNumbersBelow alone sheets → ⊥)
+abbrev pub IsChoice : (told : List Repair) → (known : Bool) → (pairs : List Pair) → (sheets : List SheetRepair) → Option NumbersAlone → Choice → Type 0
+IsChoice told known pairs sheets alone choice.None = (known ≡ true) × (told ≡ []) × (alone ≡ None) × (sheets ≡ [])
+IsChoice told known pairs sheets alone choice.Open = (known ≡ true → ⊥) ⊎ (Lead alone told pairs × IsGameAlone alone false × IsNoneChosen told pairs alone sheets) ⊎ IsSheetOpen told pairs alone sheets
+IsChoice told known pairs sheets alone choice.Numbers = (known ≡ true) × Lead alone told pairs × IsGameAlone alone true × AreNumbersBelow alone sheets
+IsChoice told known pairs sheets alone choice.Pair = (known ≡ true) × (Lead alone told pairs → ⊥) × IsPairAhead told pairs alone × IsNoneChosen told pairs alone sheets
+IsChoice told known pairs sheets alone choice.NearNumbers = (known ≡ true) × (Lead alone told pairs → ⊥) × IsNearNumbers told alone × IsNoneChosen told pairs alone sheets
+IsChoice told known pairs sheets alone choice.Close = (known ≡ true) × AreClose told × IsNoneChosen told pairs alone sheets
+IsChoice told known pairs sheets alone (choice.Clear repair) =
+    (known ≡ true) × IsFirst told repair.now × (HasRival repair.now pairs → ⊥) × IsAheadOfNumbers alone repair.now × IsFarBelowSheets (cost_in repair.now) sheets
+IsChoice told known pairs sheets alone (choice.Sheet s) = (known ≡ true) × IsSheetChosen told pairs alone sheets s.now
+IsChoice told known pairs sheets alone choice.NearSheet =
+    (known ≡ true) × (sheets ≡ [] → ⊥) × IsNoneChosen told pairs alone sheets × IsNoneBelow told sheets × (AreNumbersBelow alone sheets → ⊥)

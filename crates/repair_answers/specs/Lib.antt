@@ -1,8 +1,10 @@
 pub mod Alike
 pub mod Tried
 pub mod Unchanged
+pub mod Trades
 pub mod Choices
 pub mod Sheets
+pub mod BadRecords
 pub mod Lines
 pub mod Chains
 pub mod Answers

@@ -1,9 +1,9 @@
 //! Changes of one kind at one place that differ in a letter, or in how many tiles are exchanged.
 ghost use Rattle.std.specs.Prelude.{◌≡◌};
-ghost use Rattle.repair_answers.specs.Alike.{same_tile, same_use, like_spelling, like_tile, like_code, like_missing, like_slip, is_like};
+ghost use Rattle.repair_answers.specs.Alike.{same_tile, same_use, like_spelling, like_tile, like_misread, like_code, like_missing, like_slip, is_like};
 
 use gcg_read::same_seat;
-use record_changes::{CodeSlip, MissingLine, Slip, SpellingSlip, TileSlip, TilesOf};
+use record_changes::{CodeSlip, Misread, MissingLine, Slip, SpellingSlip, TileSlip, TilesOf};
 use record_repairs::Repair;
 use ref_tiles::Kind;
 
@@ -60,6 +60,19 @@ fn like_tile(slip: &TileSlip, other: &TileSlip) -> bool
     }
 }
 
+/// Whether the same tile is misread twice.
+fn like_misread(slip: &Misread, other: &Misread) -> bool
+    ensures { result ≡ like_misread slip.now other.now }
+{
+    match (slip, other) {
+        (Misread::Played { place, .. }, Misread::Played { place: at, .. }) => *place == *at,
+        (Misread::Exchanged { tile, .. }, Misread::Exchanged { tile: one, .. }) => {
+            same_tile(*tile, *one)
+        }
+        _ => false,
+    }
+}
+
 /// Whether two codes differ at most in how many tiles are exchanged.
 fn like_code(slip: &CodeSlip, other: &CodeSlip) -> bool
     ensures { result ≡ like_code slip.now other.now }
@@ -95,6 +108,7 @@ fn like_slip(slip: &Slip, other: &Slip) -> bool
                 slip: other,
             },
         ) => { same_use(*of, *whose) && like_tile(slip, other) }
+        (Slip::Misread(slip), Slip::Misread(other)) => like_misread(slip, other),
         (Slip::Number(_), Slip::Number(_)) => true,
         (Slip::Code(slip), Slip::Code(other)) => like_code(slip, other),
         (Slip::Missing(line), Slip::Missing(other)) => like_missing(line, other),

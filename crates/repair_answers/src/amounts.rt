@@ -16,6 +16,9 @@ use record_repairs::{Found, Repair};
 use ref_tiles::Rules;
 use std::alloc::{AllocError, Global};
 
+/// How many steps the search may take: about as many as the events that it goes over.
+const STEPS: u64 = 500_000;
+
 /// Whether a slip is one of a bonus for a challenge or of a penalty for time: it is missing, or it is another amount.
 fn is_of_amount(slip: &Slip) -> bool
     ensures { result ≡ is_of_amount slip.now }
@@ -67,6 +70,17 @@ pub fn amount_repair(
     let alone = unchanged(alloc, rules, pair.list(), game)?;
     let below = below_of(&alone);
     let walk = walk_as_written(alloc, rules, pair.list(), &mut game.events)?;
-    let singles = first_repairs(alloc, rules, pair, &walk, &mut game.events, below, 1)?;
+    let limit = Some(STEPS);
+    let singles = first_repairs(
+        alloc,
+        rules,
+        pair,
+        &walk,
+        &mut game.events,
+        &alone,
+        below,
+        1,
+        limit,
+    )?;
     Ok(amount_among(&alone, singles.found))
 }

@@ -3,11 +3,13 @@ ghost use Rattle.std.specs.Prelude.{◌≡◌, Some, IfOk, OnOk};
 ghost use Rattle.game_rows.specs.Walks.{IsWalkOf};
 ghost use Rattle.game_case.specs.Explaining.{IsWalkFor, HasItsWalk};
 ghost use Rattle.lex_check.specs.Pairs.{list_in};
+ghost use Rattle.repair_answers.specs.BadRecords.{RepairsOfLine};
 ghost use Rattle.repair_answers.specs.Answers.{below_of, is_illegal, RepairsIn, RepairsBy, RepairsOf, IsRepairAnswer};
 
+use crate::bad_records::{LineRepairs, repairs_of_line};
 use crate::chains::chain_of;
 use crate::evidence::{Told, before_numbers, lines_of};
-use crate::lists::many_tried;
+use crate::lists::{search_limit, tries_from};
 use crate::numbers_alone::NumbersAlone;
 use crate::pair_lines::pair_lines;
 use crate::sheet_repair::SheetRepair;
@@ -29,6 +31,9 @@ use std::alloc::{AllocError, Global};
 /// How many repairs one line may have: one more than there are letters.
 const MOST_ALIKE: usize = 27;
 
+/// How many steps each search for the second of two changes may take: about as many as the events that it goes over.
+const PAIR_STEPS: u64 = 1_000_000;
+
 /// The answer on an illegal record.
 #[derive(Drop)]
 pub struct Faulty {
@@ -48,8 +53,12 @@ pub struct Faulty {
     pub pair_lines: Vec<Told>,
     /// The slips of the whole sheet that repair it, those that cost least first.
     pub sheets: Vec<SheetRepair>,
-    /// How many changes were tried.
+    /// How many changes there are, with those of plays that a search found.
+    pub changes: u128,
+    /// How many of them were tried.
     pub tried: u128,
+    /// How many of them were not tried, since the search took too many steps: those at the first places.
+    pub untried: u128,
 }
 
 /// The answer on a record.
@@ -61,6 +70,8 @@ pub struct RepairAnswer {
     pub faulty: Option<Faulty>,
     /// Several changes that repair it one after the other, if they are likelier than anything simpler.
     pub chain: Option<Chain>,
+    /// What repairs the text, if it is not a record.
+    pub of_line: Option<LineRepairs>,
 }
 
 /// Fewer numbers and words than this may stay wrong with a repair; `None` if any number may.
@@ -91,15 +102,36 @@ fn faulty_of(
     let alone = unchanged(alloc, rules, list, game)?;
     let below = below_of(&alone);
     let wanted = most.saturating_mul(MOST_ALIKE);
-    let singles = first_repairs(alloc, rules, pair, walk, &mut game.events, below, wanted)?;
+    let limit = search_limit(alloc, rules, list, walk, game.events.as_slice())?;
+    let singles = first_repairs(
+        alloc,
+        rules,
+        pair,
+        walk,
+        &mut game.events,
+        &alone,
+        below,
+        wanted,
+        limit,
+    )?;
     let told = singles.found.told.as_slice();
     let lines = lines_of(alloc, told, most)?;
     let before = before_numbers(&alone, told, lines.as_slice());
-    let pairs = pairs(alloc, rules, list, &mut game.events, told, wanted)?;
+    let pairs = pairs(
+        alloc,
+        rules,
+        list,
+        &mut game.events,
+        told,
+        wanted,
+        PAIR_STEPS,
+    )?;
     let pair_lines = pair_lines(alloc, pairs.told.as_slice(), most)?;
     let events = game.events.as_slice();
     let sheets = sheet_repairs(alloc, rules, list, text, events, walk, &alone)?;
-    let tried = many_tried(alloc, rules, list, walk, events, singles.plays.len())?;
+    let from = singles.found.from;
+    let plays = singles.plays.len();
+    let tries = tries_from(alloc, rules, list, walk, events, from, plays)?;
     Ok(Faulty {
         alone,
         plays: singles.plays,
@@ -109,7 +141,9 @@ fn faulty_of(
         pairs,
         pair_lines,
         sheets,
-        tried,
+        changes: tries.changes,
+        tried: tries.tried,
+        untried: tries.untried,
     })
 }
 
@@ -187,8 +221,28 @@ fn faulty_in(
     }
 }
 
-/// The answer of `repair` on the case of a record: its verdict and, if it is illegal, its first repairs in at most `most` lines. Afterwards the case is as
-/// it was.
+/// What repairs the text of a case, if it is not a record.
+fn line_repairs_of(
+    alloc: Global,
+    rules: &Rules,
+    pair: &Checked<'_>,
+    case: &Case,
+    most: usize,
+) -> Result<Option<LineRepairs>, AllocError>
+    ensures { IfOk result (RepairsOfLine case.now.read rules.now (list_in pair.now) case.now.text.items most) }
+{
+    match &case.read {
+        Ok(_) => Ok(None),
+        Err(fault) => {
+            let text = case.text.as_slice();
+            let repairs = repairs_of_line(alloc, rules, pair.list(), text, fault.line, most)?;
+            Ok(Some(repairs))
+        }
+    }
+}
+
+/// The answer of `repair` on the case of a record: its verdict and, if it is illegal or not a record, its first repairs in at most `most` lines. Afterwards
+/// the case is as it was.
 ///
 /// It fails only if memory runs out.
 pub fn answer_repairs(
@@ -205,9 +259,11 @@ pub fn answer_repairs(
     let verdict = case_verdict(case);
     let faulty = faulty_in(alloc, rules, pair, case, most)?;
     let chain = chain_of(alloc, rules, pair, &mut case.read, &faulty)?;
+    let of_line = line_repairs_of(alloc, rules, pair, case, most)?;
     Ok(RepairAnswer {
         verdict,
         faulty,
         chain,
+        of_line,
     })
 }

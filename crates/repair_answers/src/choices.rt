@@ -1,7 +1,7 @@
 //! Whether the first repair, or the record with only its numbers corrected, is the likeliest by far.
-ghost use Rattle.std.specs.Prelude.{◌≡◌, ◌⊎◌, ◌↔◌, ◌≤◌, ◌+◌, All, IsTrue, IsFalse, [], None};
+ghost use Rattle.std.specs.Prelude.{◌≡◌, ◌⊎◌, ◌↔◌, ◌≤◌, ◌+◌, All, IsTrue, IsFalse, true, [], None};
 ghost use Rattle.repair_answers.specs.Alike.{cost_in};
-ghost use Rattle.repair_answers.specs.Choices.{says_less, leaves_out_tile, says_less_slip, IsAheadOf, HasRival, IsAheadOfNumbers, LeadsRepairs, LeadsPairs, Lead, IsGameAlone, IsChoice};
+ghost use Rattle.repair_answers.specs.Choices.{says_less, leaves_out_tile, says_less_slip, IsAheadOf, HasRival, IsAheadOfNumbers, LeadsRepairs, LeadsPairs, Lead, IsGameAlone, all_known, IsChoice};
 
 use crate::alike::same_tile;
 use crate::answers::Faulty;
@@ -17,7 +17,7 @@ use repair_pairs::Pair;
 pub enum Choice<'a> {
     /// There is no repair.
     None,
-    /// It is not known of some changes whether they are repairs; or correcting only the numbers is ahead, and it is not known whether that makes a game.
+    /// Some changes were not tried, or it is not known of them whether they are repairs; or correcting only the numbers is ahead, and it is not known whether that makes a game.
     Open,
     /// Correcting only the numbers is ahead of all repairs by at least a wrong number, or there are none.
     Numbers,
@@ -160,7 +160,7 @@ fn lead(alone: &Option<NumbersAlone>, told: &[Repair], pairs: &[Pair]) -> bool
 /// The choice, if correcting only the numbers is ahead of all changes.
 fn by_numbers<'a>(alone: &Option<NumbersAlone>, told: &'a [Repair], pairs: &[Pair]) -> Choice<'a>
     requires { Lead alone.now told.now pairs.now }
-    ensures { IsChoice told.now [] pairs.now [] alone.now result }
+    ensures { IsChoice told.now true pairs.now [] alone.now result }
 {
     match alone {
         Some(alone) if alone.is_game => Choice::Numbers,
@@ -177,7 +177,7 @@ fn without_repair<'a>(
 ) -> Choice<'a>
     requires told { told.now ≡ [] }
     requires behind { Lead alone.now told.now pairs.now → ⊥ }
-    ensures { IsChoice told.now [] pairs.now [] alone.now result }
+    ensures { IsChoice told.now true pairs.now [] alone.now result }
 {
     match alone {
         Some(_) => Choice::Pair,
@@ -188,7 +188,7 @@ fn without_repair<'a>(
 /// The choice, if there is a repair and correcting only the numbers is not ahead of all changes.
 fn by_repairs<'a>(alone: &Option<NumbersAlone>, told: &'a [Repair], pairs: &[Pair]) -> Choice<'a>
     requires { Lead alone.now told.now pairs.now → ⊥ }
-    ensures { IsChoice told.now [] pairs.now [] alone.now result }
+    ensures { IsChoice told.now true pairs.now [] alone.now result }
 {
     let [first, rest @ ..] = told else {
         return without_repair(alone, told, pairs);
@@ -210,12 +210,22 @@ fn without_sheets<'a>(
     pairs: &[Pair],
     alone: &Option<NumbersAlone>,
 ) -> Choice<'a>
-    ensures { IsChoice told.now [] pairs.now [] alone.now result }
+    ensures { IsChoice told.now true pairs.now [] alone.now result }
 {
     if lead(alone, told, pairs) {
         by_numbers(alone, told, pairs)
     } else {
         by_repairs(alone, told, pairs)
+    }
+}
+
+/// Whether each change was tried, and is known to be a repair or not.
+fn all_known(found: &Found) -> bool
+    ensures { result ≡ all_known found.now.left.items found.now.from }
+{
+    match found.left.as_slice() {
+        [] => found.from == 0,
+        _ => false,
     }
 }
 
@@ -227,9 +237,9 @@ pub(crate) fn choice_among<'a>(
     sheets: &'a [SheetRepair],
     alone: &Option<NumbersAlone>,
 ) -> Choice<'a>
-    ensures { IsChoice found.now.told.items found.now.left.items pairs.now sheets.now alone.now result }
+    ensures { IsChoice found.now.told.items (all_known found.now.left.items found.now.from) pairs.now sheets.now alone.now result }
 {
-    if !found.left.is_empty() {
+    if !all_known(found) {
         return Choice::Open;
     }
     let told = found.told.as_slice();
@@ -242,7 +252,7 @@ pub(crate) fn choice_among<'a>(
 
 /// Which of the repairs that were found is to be chosen, if one is.
 pub fn choice_of(faulty: &Faulty) -> Choice<'_>
-    ensures { IsChoice faulty.now.found.told.items faulty.now.found.left.items faulty.now.pairs.told.items faulty.now.sheets.items faulty.now.alone result }
+    ensures { IsChoice faulty.now.found.told.items (all_known faulty.now.found.left.items faulty.now.found.from) faulty.now.pairs.told.items faulty.now.sheets.items faulty.now.alone result }
 {
     choice_among(
         &faulty.found,

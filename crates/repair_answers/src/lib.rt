@@ -1,4 +1,4 @@
-//! What `repair` answers of a record: its verdict and, if it is illegal, the first repairs.
+//! What `repair` answers of a record: its verdict and, if it is illegal or no record, the first repairs.
 //!
 //! [`answer_repairs`] makes the answer of the case of a record. It is plain data: text and objects are made only from it.
 #![tactic(auto)]
@@ -6,6 +6,7 @@
 mod alike;
 mod amounts;
 mod answers;
+mod bad_records;
 mod chains;
 mod choices;
 mod evidence;
@@ -19,10 +20,12 @@ mod sheet_choices;
 mod sheet_repair;
 mod sheets;
 mod singles;
+mod trades;
 mod unchanged;
 
 pub use amounts::amount_repair;
 pub use answers::{Faulty, RepairAnswer, answer_repairs};
+pub use bad_records::{LineRepairs, SameCost, choice_of_line};
 pub use choices::{Choice, choice_of};
 pub use evidence::Told;
 pub use likely::{Likely, likely_in, likely_in_case, likely_repair};
@@ -30,3 +33,4 @@ pub use numbers_alone::NumbersAlone;
 pub use order::{Item, items_of};
 pub use sheet_amounts::{SheetAmount, amount_on_sheet};
 pub use sheet_repair::SheetRepair;
+pub use trades::WORDS_OF_SLIPS;

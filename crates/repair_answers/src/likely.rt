@@ -1,6 +1,7 @@
 //! The repair of a record that is likelier than all others by far.
 ghost use Rattle.std.specs.Prelude.{◌≡◌, IfOk, OnOk};
 ghost use Rattle.lex_check.specs.Pairs.{list_in};
+ghost use Rattle.repair_answers.specs.Choices.{all_known};
 ghost use Rattle.repair_answers.specs.Likely.{IsFirstChange, IsFirstSheet, IsLikelyOf, IsLikely, IsLikelyFor, IsLikelyOfCase};
 
 use crate::answers::below_of;
@@ -21,6 +22,12 @@ use std::alloc::{AllocError, Global};
 
 /// How many repairs are looked for: the first, two that only say less, and another one.
 const WANTED: usize = 4;
+
+/// How many steps the search for single changes may take: about as many as the events that it goes over.
+const STEPS: u64 = 500_000;
+
+/// How many steps each search for the second of two changes may take.
+const PAIR_STEPS: u64 = 250_000;
 
 /// What repairs a record and is likelier than all else by far.
 #[derive(Drop)]
@@ -70,7 +77,7 @@ fn chosen(
     pairs: &[Pair],
     sheets: Vec<SheetRepair>,
 ) -> Option<Likely>
-    ensures { IsLikelyOf alone.now found.told.items found.left.items pairs.now sheets.items result }
+    ensures { IsLikelyOf alone.now found.told.items (all_known found.left.items found.from) pairs.now sheets.items result }
 {
     match choice_among(&found, pairs, sheets.as_slice(), alone) {
         Choice::Clear(_) => first_change(found.told),
@@ -87,7 +94,7 @@ fn chosen(
 
 /// The likely repair of a record, given its text: the first, if it is ahead by at least a wrong number of all others, but for those that only say less, of the
 /// slips of the whole sheet and the record with only its numbers corrected, and if no two changes cost less; or a slip of the whole sheet that is ahead of
-/// all of them, without which every number is right. Afterwards the record is as it was.
+/// all of them, without which every number is right. There is none if the search took too many steps to try each change. Afterwards the record is as it was.
 ///
 /// It fails only if memory runs out.
 pub fn likely_repair(
@@ -104,7 +111,18 @@ pub fn likely_repair(
     let alone = unchanged(alloc, rules, list, game)?;
     let below = below_of(&alone);
     let walk = walk_as_written(alloc, rules, list, &mut game.events)?;
-    let singles = first_repairs(alloc, rules, pair, &walk, &mut game.events, below, WANTED)?;
+    let limit = Some(STEPS);
+    let singles = first_repairs(
+        alloc,
+        rules,
+        pair,
+        &walk,
+        &mut game.events,
+        &alone,
+        below,
+        WANTED,
+        limit,
+    )?;
     let two = pairs(
         alloc,
         rules,
@@ -112,6 +130,7 @@ pub fn likely_repair(
         &mut game.events,
         singles.found.told.as_slice(),
         1,
+        PAIR_STEPS,
     )?;
     let sheets = sheet_repairs(
         alloc,

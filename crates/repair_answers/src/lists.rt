@@ -1,8 +1,8 @@
-//! How many changes of a record are tried.
-ghost use Rattle.std.specs.Prelude.{◌≡◌, ◌+◌, ◌<◌, ◌≤◌, ◌^◌, length, IfOk};
+//! How many changes a record has, and how many of them are tried.
+ghost use Rattle.std.specs.Prelude.{◌≡◌, ◌+◌, ◌<◌, ◌≤◌, ◌^◌, length, IfOk, ◌-◌, ◌*◌, None};
 ghost use Rattle.change_lists.specs.Changes.{changes_at};
 ghost use Rattle.game_rows.specs.Walks.{IsWalkOf};
-ghost use Rattle.repair_answers.specs.Tried.{tried_changes};
+ghost use Rattle.repair_answers.specs.Tried.{many_before, many_walked, many_untried, limit_for};
 
 use change_lists::{law_of_slips, slips_at};
 use game_rows::Walk;
@@ -11,6 +11,9 @@ use lex_list::WordList;
 use ref_tiles::Rules;
 use repair_pairs::game_before;
 use std::alloc::{AllocError, Global};
+
+/// How many steps a search may take at least: about as many as the events that it goes over.
+const STEPS: u64 = 4_000_000;
 
 /// How many changes there are at a place, up to the one after the last row.
 fn many_at(
@@ -34,23 +37,94 @@ fn many_at(
     Ok(slips.len() as u128)
 }
 
-/// How many changes of a record are tried: those at each place up to the event at which its correction stops, and `plays` plays.
+/// How many changes a record has at the places before `end`.
 ///
 /// It fails only if memory runs out.
-pub(crate) fn many_tried(
+fn many_before(
     alloc: Global,
     rules: &Rules,
     list: &WordList,
     walk: &Walk,
     events: &[Event],
-    plays: usize,
+    end: usize,
 ) -> Result<u128, AllocError>
-    requires { IsWalkOf rules.now list.now events.now walk.now }
-    ensures { IfOk result (λ many. many ≡ length (tried_changes rules.now events.now walk.now) + plays) }
+    requires walk { IsWalkOf rules.now list.now events.now walk.now }
+    requires end { end ≤ length walk.now.rows.items + 1 }
+    ensures many { IfOk result (λ many. many ≡ many_before rules.now events.now end) }
+    ensures few { IfOk result (λ many. many ≤ end * 2 ^ 64) }
 {
     let mut many = 0;
-    for place in 0..walk.rows.len() + 1 {
+    for place in 0..end {
         many += many_at(alloc, rules, list, walk, events, place)?;
     }
-    Ok(many + plays as u128)
+    Ok(many)
+}
+
+/// How many steps the search for repairs may take: as many as it needs, if the changes, each counted once for each event, are few enough.
+fn limit_for(many: u128, events: usize) -> Option<u64>
+    ensures { result ≡ limit_for many events }
+{
+    if many.saturating_mul(events as u128) <= STEPS as u128 {
+        None
+    } else {
+        Some(STEPS)
+    }
+}
+
+/// How many steps the search for the repairs of a record may take.
+///
+/// It fails only if memory runs out.
+#[tactic(auto, using(crate::proofs::Tries::no_limit))]
+pub(crate) fn search_limit(
+    alloc: Global,
+    rules: &Rules,
+    list: &WordList,
+    walk: &Walk,
+    events: &[Event],
+) -> Result<Option<u64>, AllocError>
+    requires { IsWalkOf rules.now list.now events.now walk.now }
+    ensures { IfOk result (λ limit. many_walked rules.now events.now walk.now * length events.now ≤ 4000000 → limit ≡ None) }
+{
+    let places = walk.rows.len() + 1;
+    let many = many_before(alloc, rules, list, walk, events, places)?;
+    Ok(limit_for(many, events.len()))
+}
+
+/// How many changes of a record there are, and how many of them are tried.
+#[derive(Clone, Copy)]
+pub(crate) struct Tries {
+    /// All of them, with plays that were added.
+    pub(crate) changes: u128,
+    /// Those that are tried.
+    pub(crate) tried: u128,
+    /// Those that are not.
+    pub(crate) untried: u128,
+}
+
+/// How many changes of a record there are, with `plays` plays that were added, and how many of them are tried if those from a place on are.
+///
+/// It fails only if memory runs out.
+pub(crate) fn tries_from(
+    alloc: Global,
+    rules: &Rules,
+    list: &WordList,
+    walk: &Walk,
+    events: &[Event],
+    from: usize,
+    plays: usize,
+) -> Result<Tries, AllocError>
+    requires { IsWalkOf rules.now list.now events.now walk.now }
+    ensures changes { IfOk result (λ tries. tries.changes ≡ many_walked rules.now events.now walk.now + plays) }
+    ensures tried { IfOk result (λ tries. tries.tried ≡ tries.changes - tries.untried) }
+    ensures untried { IfOk result (λ tries. tries.untried ≡ many_untried rules.now events.now walk.now from) }
+{
+    let places = walk.rows.len() + 1;
+    let many = many_before(alloc, rules, list, walk, events, places)?;
+    let untried = many_before(alloc, rules, list, walk, events, from.min(places))?;
+    let changes = many + plays as u128;
+    Ok(Tries {
+        changes,
+        tried: changes.saturating_sub(untried),
+        untried,
+    })
 }

@@ -1,5 +1,5 @@
 //! Whether a slip of the whole sheet is the likeliest repair by far.
-ghost use Rattle.std.specs.Prelude.{◌≡◌, ◌↔◌, ◌∷◌, [], All, IsTrue, List, Option, slice_get};
+ghost use Rattle.std.specs.Prelude.{◌≡◌, ◌↔◌, ◌∷◌, true, [], All, IsTrue, List, Option, slice_get};
 ghost use Rattle.record_repairs.specs.declared.repair.Repair.{Repair};
 ghost use Rattle.repair_pairs.specs.declared.found.Pair.{Pair};
 ghost use Rattle.repair_answers.specs.declared.sheet_repair.SheetRepair.{SheetRepair};
@@ -55,7 +55,8 @@ fn says_less_than(first: &SheetRepair, repair: &Repair) -> bool
         SheetSlip::Unread(unread) => {
             is_missing(&change.slip) && is_on(unread.line, first.right.as_slice(), change.place)
         }
-        SheetSlip::Running { .. } => false,
+        SheetSlip::ExtraMark { .. } | SheetSlip::NoPlace { .. } | SheetSlip::Running { .. } =>
+            false,
     }
 }
 
@@ -115,7 +116,7 @@ fn is_sheet_ahead(
 #[tactic(auto, using(crate::proofs::SheetChoices::sheet_ahead))]
 fn by_sheet(first: &SheetRepair) -> Choice<'_>
     ensures { (told : List Repair) (pairs : List Pair) (alone : Option NumbersAlone) (rest : List SheetRepair)
-        → IsSheetAhead first.now rest told pairs alone → IsChoice told [] pairs (first.now ∷ rest) alone result }
+        → IsSheetAhead first.now rest told pairs alone → IsChoice told true pairs (first.now ∷ rest) alone result }
 {
     if !first.alone.is_game {
         Choice::Open
@@ -140,7 +141,7 @@ fn are_numbers_below(alone: &Option<NumbersAlone>, first: &SheetRepair) -> bool
 #[tactic(auto, using(crate::proofs::SheetChoices::numbers_beside))]
 fn numbers_beside<'a>(alone: &Option<NumbersAlone>, first: &'a SheetRepair) -> Choice<'a>
     ensures { (told : List Repair) (pairs : List Pair) (rest : List SheetRepair) → (IsSheetAhead first.now rest told pairs alone.now → ⊥)
-        → IsChoice told [] pairs [] alone.now choice.Numbers → IsChoice told [] pairs (first.now ∷ rest) alone.now result }
+        → IsChoice told true pairs [] alone.now choice.Numbers → IsChoice told true pairs (first.now ∷ rest) alone.now result }
 {
     if are_numbers_below(alone, first) {
         Choice::Numbers
@@ -153,7 +154,7 @@ fn numbers_beside<'a>(alone: &Option<NumbersAlone>, first: &'a SheetRepair) -> C
 #[tactic(auto, using(crate::proofs::SheetChoices::repair_beside))]
 fn repair_beside<'a>(repair: &'a Repair, first: &SheetRepair) -> Choice<'a>
     ensures { (told : List Repair) (pairs : List Pair) (alone : Option NumbersAlone) (rest : List SheetRepair) → (IsSheetAhead first.now rest told pairs alone → ⊥)
-        → IsChoice told [] pairs [] alone (choice.Clear repair.entry) → IsChoice told [] pairs (first.now ∷ rest) alone result }
+        → IsChoice told true pairs [] alone (choice.Clear repair.entry) → IsChoice told true pairs (first.now ∷ rest) alone result }
 {
     if is_far_below(cost_of(repair), first.cost) {
         Choice::Clear(repair)
@@ -170,7 +171,7 @@ fn beside_sheet<'a>(
     first: &'a SheetRepair,
 ) -> Choice<'a>
     ensures { (told : List Repair) (pairs : List Pair) (rest : List SheetRepair) → (IsSheetAhead first.now rest told pairs alone.now → ⊥)
-        → IsChoice told [] pairs [] alone.now choice.entry → IsChoice told [] pairs (first.now ∷ rest) alone.now result }
+        → IsChoice told true pairs [] alone.now choice.entry → IsChoice told true pairs (first.now ∷ rest) alone.now result }
 {
     match choice {
         Choice::None => Choice::NearSheet,
@@ -193,8 +194,8 @@ pub(crate) fn with_sheets<'a>(
     pairs: &[Pair],
     alone: &Option<NumbersAlone>,
 ) -> Choice<'a>
-    requires { IsChoice told.now [] pairs.now [] alone.now without }
-    ensures { IsChoice told.now [] pairs.now (first.now ∷ rest.now) alone.now result }
+    requires { IsChoice told.now true pairs.now [] alone.now without }
+    ensures { IsChoice told.now true pairs.now (first.now ∷ rest.now) alone.now result }
 {
     if is_sheet_ahead(first, rest, told, pairs, alone) {
         by_sheet(first)

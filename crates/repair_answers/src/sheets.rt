@@ -1,6 +1,7 @@
 //! Slips of the whole sheet that repair a record.
-ghost use Rattle.std.specs.Prelude.{◌≡◌, ◌<◌, ◌≤◌, ◌+◌, length, slice_get, IfOk, OnOk};
+ghost use Rattle.std.specs.Prelude.{◌≡◌, ◌<◌, ◌≤◌, ◌+◌, [], length, slice_get, IfOk, OnOk};
 ghost use Rattle.std.specs.Option.{option_copied};
+ghost use Rattle.sheet_slips.specs.BadListing.{bad_slips};
 ghost use Rattle.sheet_slips.specs.Weights.{weight_of};
 ghost use Rattle.repair_answers.specs.Choices.{alone_cost};
 ghost use Rattle.repair_answers.specs.Sheets.{slip_places, slips_tried, many_wrong, sheet_room, IsRighted, IsTrial, AreFoundTo, AreSheetRepairs};
@@ -12,7 +13,7 @@ use game_rows::{Walk, renumber};
 use gcg_read::{Event, Events, Players, Record};
 use lex_list::WordList;
 use ref_tiles::Rules;
-use sheet_slips::{SheetSlip, sheet_slips, weight_of, without_slip};
+use sheet_slips::{SheetSlip, bad_slips, sheet_slips, weight_of, without_slip};
 use std::alloc::{AllocError, Global};
 
 /// At how many places a slip may begin that runs through the sheet.
@@ -168,9 +169,27 @@ fn found_among(
     Ok(found)
 }
 
+/// Those of some slips of the whole sheet that repair a record: those that cost least first.
+fn repairs_among(
+    alloc: Global,
+    rules: &Rules,
+    list: &WordList,
+    text: &[u8],
+    events: &[Event],
+    room: usize,
+    slips: &[SheetSlip],
+) -> Result<Vec<SheetRepair>, AllocError>
+    ensures { IfOk result (λ found. AreSheetRepairs rules.now list.now text.now events.now room slips.now found.items) }
+{
+    let mut found = found_among(alloc, rules, list, text, events, room, slips)?;
+    found.sort_by_key(|repair| repair.cost)?;
+    Ok(found)
+}
+
 /// The slips of the whole sheet that repair a record, given its text, its walk, and what is wrong if only its numbers are: those that cost least first.
 ///
 /// It fails only if memory runs out.
+#[tactic(auto, using(crate::proofs::SheetsFound::sheets_of))]
 pub(crate) fn sheet_repairs(
     alloc: Global,
     rules: &Rules,
@@ -184,7 +203,21 @@ pub(crate) fn sheet_repairs(
 {
     let slips = sheet_slips(alloc, text, events, slip_places(events, walk))?;
     let room = sheet_room(alone);
-    let mut found = found_among(alloc, rules, list, text, events, room, slips.as_slice())?;
-    found.sort_by_key(|repair| repair.cost)?;
-    Ok(found)
+    repairs_among(alloc, rules, list, text, events, room, slips.as_slice())
+}
+
+/// The slips of the line with this number with which a text that is not a record is one: those that cost least first.
+///
+/// It fails only if memory runs out.
+pub(crate) fn line_repairs(
+    alloc: Global,
+    rules: &Rules,
+    list: &WordList,
+    text: &[u8],
+    number: u32,
+) -> Result<Vec<SheetRepair>, AllocError>
+    ensures { IfOk result (λ found. AreSheetRepairs rules.now list.now text.now [] 10 (bad_slips text.now number) found.items) }
+{
+    let slips = bad_slips(alloc, text, number)?;
+    repairs_among(alloc, rules, list, text, &[], FEWER_THAN, slips.as_slice())
 }

@@ -1,11 +1,13 @@
 //! The first repairs of a record by one change: of the list and, if none of these is a likely one, also of plays that a search finds.
-ghost use Rattle.std.specs.Prelude.{◌≡◌, IfOk, OnOk};
+ghost use Rattle.std.specs.Prelude.{◌≡◌, None, IfOk, OnOk};
 ghost use Rattle.lex_check.specs.Pairs.{list_in};
 ghost use Rattle.play_changes.specs.PlayChanges.{ArePlayChanges};
 ghost use Rattle.record_repairs.specs.Repairs.{AreFirstRepairs};
+ghost use Rattle.repair_answers.specs.Trades.{AreTold};
 
 use crate::choices::cost_of;
-use crate::numbers_alone::NUMBER;
+use crate::numbers_alone::{NUMBER, NumbersAlone};
+use crate::trades::keep_told;
 use game_rows::Walk;
 use gcg_read::Events;
 use lex_check::Checked;
@@ -49,9 +51,11 @@ fn with_plays(
     plays: Vec<Change>,
     below: Option<usize>,
     most: usize,
+    limit: Option<u64>,
 ) -> Result<Singles, AllocError>
     ensures plays { IfOk result (λ s. s.plays ≡ plays) }
-    ensures told { IfOk result (λ s. AreFirstRepairs rules.now (list_in pair.now) events.old plays.items below most s.found.told.items s.found.left.items) }
+    ensures told { IfOk result (λ s. AreFirstRepairs rules.now (list_in pair.now) events.old plays.items below s.found.from most s.found.told.items s.found.left.items) }
+    ensures all { IfOk result (λ s. limit ≡ None → s.found.from ≡ 0) }
     ensures same { OnOk result (events.new ≡ events.old) }
 {
     let found = repairs(
@@ -62,12 +66,52 @@ fn with_plays(
         plays.as_slice(),
         below,
         most,
+        limit,
     )?;
     Ok(Singles { plays, found })
 }
 
 /// The first `most` repairs of a record by the changes of its list; if the first of them costs more than a wrong number, or there is none,
-/// those by these changes and by the plays that a search finds. No plays are looked for if only a single number or word is wrong.
+/// those by these changes and by the plays that a search finds. No plays are looked for if only a single number or word is wrong. A limit ends the search at
+/// a place once it took so many steps; the last places are tried first.
+fn found_repairs(
+    alloc: Global,
+    rules: &Rules,
+    pair: &Checked<'_>,
+    walk: &Walk,
+    events: &mut Events,
+    below: Option<usize>,
+    most: usize,
+    limit: Option<u64>,
+) -> Result<Singles, AllocError>
+    ensures told { IfOk result (λ s. AreFirstRepairs rules.now (list_in pair.now) events.old s.plays.items below s.found.from most s.found.told.items s.found.left.items) }
+    ensures plays { IfOk result (λ s. ArePlayChanges events.old walk.now s.plays.items) }
+    ensures all { IfOk result (λ s. limit ≡ None → s.found.from ≡ 0) }
+    ensures same { OnOk result (events.new ≡ events.old) }
+{
+    let by_list = with_plays(
+        alloc,
+        rules,
+        pair,
+        events,
+        Vec::new(alloc),
+        below,
+        most,
+        limit,
+    )?;
+    if is_nearly_right(below) || has_likely(&by_list.found) {
+        return Ok(by_list);
+    }
+    let plays = plays_for(alloc, rules, pair, walk, events.as_slice())?;
+    if plays.is_empty() {
+        return Ok(by_list);
+    }
+    with_plays(alloc, rules, pair, events, plays, below, most, limit)
+}
+
+/// The first `most` repairs of a record that are told, given what is wrong if only its numbers are: by the changes of its list; if the first of them costs
+/// more than a wrong number, or there is none, by these changes and by the plays that a search finds. A limit ends the search at a place once it took so many
+/// steps; the last places are tried first. Afterwards the events are as they were.
 ///
 /// It fails only if memory runs out.
 pub(crate) fn first_repairs(
@@ -76,20 +120,17 @@ pub(crate) fn first_repairs(
     pair: &Checked<'_>,
     walk: &Walk,
     events: &mut Events,
+    alone: &Option<NumbersAlone>,
     below: Option<usize>,
     most: usize,
+    limit: Option<u64>,
 ) -> Result<Singles, AllocError>
-    ensures told { IfOk result (λ s. AreFirstRepairs rules.now (list_in pair.now) events.old s.plays.items below most s.found.told.items s.found.left.items) }
+    ensures told { IfOk result (λ s. AreTold rules.now (list_in pair.now) events.old alone.now s.plays.items below s.found.from most s.found.told.items s.found.left.items) }
     ensures plays { IfOk result (λ s. ArePlayChanges events.old walk.now s.plays.items) }
+    ensures all { IfOk result (λ s. limit ≡ None → s.found.from ≡ 0) }
     ensures same { OnOk result (events.new ≡ events.old) }
 {
-    let by_list = with_plays(alloc, rules, pair, events, Vec::new(alloc), below, most)?;
-    if is_nearly_right(below) || has_likely(&by_list.found) {
-        return Ok(by_list);
-    }
-    let plays = plays_for(alloc, rules, pair, walk, events.as_slice())?;
-    if plays.is_empty() {
-        return Ok(by_list);
-    }
-    with_plays(alloc, rules, pair, events, plays, below, most)
+    let mut singles = found_repairs(alloc, rules, pair, walk, events, below, most, limit)?;
+    keep_told(alone, &mut singles.found.told);
+    Ok(singles)
 }

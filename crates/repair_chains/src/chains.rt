@@ -21,6 +21,9 @@ const NUMBER: u128 = 5;
 /// What a word costs that is not in the list.
 const WORD: u128 = 3;
 
+/// How many steps each search for a change may take: about as many as the events that it goes over.
+const LIMIT: u64 = 500_000;
+
 /// Changes of a record, one after the other, after which it is a legal game once its numbers are corrected.
 #[derive(Drop)]
 pub struct Chain {
@@ -84,7 +87,7 @@ fn likeliest(
     ensures repair { IfOk result (λ first. IfSome first (IsRepair rules.now list.now events.old [] None)) }
     ensures same { OnOk result (events.new ≡ events.old) }
 {
-    let found = repairs(alloc, rules, list, events, &[], None, 1)?;
+    let found = repairs(alloc, rules, list, events, &[], None, 1, Some(LIMIT))?;
     Ok(first_of(found))
 }
 
@@ -152,7 +155,7 @@ fn go_on(
     if left == 0 {
         return Ok(None);
     }
-    let Some(mut step) = first_step(alloc, rules, list, events, below)? else {
+    let Some(mut step) = first_step(alloc, rules, list, events, below, LIMIT)? else {
         return Ok(None);
     };
     let more = below.saturating_add(NUMBER);

@@ -5,6 +5,7 @@
 #![tactic(auto)]
 
 mod answers;
+mod bad_records;
 mod chains;
 mod changes;
 mod evidence;
@@ -13,4 +14,5 @@ mod sheets;
 mod slip_names;
 
 pub use answers::{push_no_game, push_repair_answer};
+pub use bad_records::push_bad_repairs;
 pub use changes::{RepairObject, single_object, whole_object};

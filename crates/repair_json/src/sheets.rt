@@ -37,6 +37,8 @@ pub(crate) struct SheetLines {
 fn is_changed(slip: &SheetSlip, place: usize, event: &Event) -> bool {
     match slip {
         SheetSlip::Unread(unread) => unread.line == event.line,
+        SheetSlip::ExtraMark { number } | SheetSlip::NoPlace { number, .. } => *number
+            == event.line,
         SheetSlip::Running { place: first, slip } => place >= *first && changes(*slip, &event.kind),
     }
 }

@@ -1,6 +1,8 @@
 //! The names of slips.
 
-use record_changes::{CodeSlip, MissingLine, PositionSlip, Slip, SpellingSlip, TileSlip, TilesOf};
+use record_changes::{
+    CodeSlip, Misread, MissingLine, PositionSlip, Slip, SpellingSlip, TileSlip, TilesOf,
+};
 use sheet_slips::{RunningSlip, SheetSlip, Way};
 
 /// The name of a slip of a position.
@@ -64,6 +66,14 @@ fn tile_name(of: TilesOf, slip: &TileSlip) -> &'static str {
     }
 }
 
+/// The name of a tile that is misread twice.
+fn misread_name(slip: &Misread) -> &'static str {
+    match slip {
+        Misread::Played { .. } => "other tile on rack and in word",
+        Misread::Exchanged { .. } => "other tile on rack and exchanged",
+    }
+}
+
 /// The name of a slip of a code.
 fn code_name(slip: &CodeSlip) -> &'static str {
     match slip {
@@ -93,6 +103,7 @@ pub(crate) fn slip_name(slip: &Slip) -> &'static str {
         Slip::Spelling(slip) => spelling_name(slip),
         Slip::Replayed(_) => "another play",
         Slip::Tile { of, slip } => tile_name(*of, slip),
+        Slip::Misread(slip) => misread_name(slip),
         Slip::NoRack => "other rack",
         Slip::Number(_) => "other number of tiles",
         Slip::Code(slip) => code_name(slip),
@@ -124,6 +135,7 @@ fn running_name(slip: RunningSlip) -> &'static str {
         RunningSlip::Interchanged => "rows and columns interchanged",
         RunningSlip::OneOff(way) => off_name(way),
         RunningSlip::OtherCase => "small letters and capitals interchanged",
+        RunningSlip::CapitalBlanks => "blanks as capitals",
         RunningSlip::OtherPlayer => "players interchanged",
     }
 }
@@ -132,6 +144,8 @@ fn running_name(slip: RunningSlip) -> &'static str {
 pub(crate) fn sheet_slip_name(slip: &SheetSlip) -> &'static str {
     match slip {
         SheetSlip::Unread(_) => "line not read",
+        SheetSlip::ExtraMark { .. } => "> too many",
+        SheetSlip::NoPlace { .. } => "no place",
         SheetSlip::Running { slip, .. } => running_name(*slip),
     }
 }

@@ -3,8 +3,9 @@
 use game_case::Case;
 use gcg_read::Players;
 use record_repairs::Repair;
-use repair_answers::{Choice, RepairAnswer, SheetRepair, choice_of};
+use repair_answers::{Choice, LineRepairs, RepairAnswer, SheetRepair, choice_of, choice_of_line};
 use repaired_sheets::{can_be_without, can_be_written};
+use sheet_slips::{RunningSlip, SheetSlip};
 use std::alloc::AllocError;
 
 /// Appends that the sheet with a repair is written, or why it cannot be.
@@ -15,16 +16,49 @@ fn push_written(text: &mut Vec<u8>, players: &Players, repair: &Repair) -> Resul
     text.extend_from_slice(b"not written: a player of the repaired sheet has no nickname\n")
 }
 
+/// Whether a slip of the whole sheet says of each line what should be there. If blanks are written as capitals it does not: of two equal letters in a word
+/// either may be the blank.
+pub fn says_each_line(slip: &SheetSlip) -> bool {
+    !matches!(
+        slip,
+        SheetSlip::Running {
+            slip: RunningSlip::CapitalBlanks,
+            ..
+        }
+    )
+}
+
 /// Appends that the sheet without a slip is written, or why it cannot be.
 fn push_without(
     text: &mut Vec<u8>,
     players: &Players,
     repair: &SheetRepair,
 ) -> Result<(), AllocError> {
+    if !says_each_line(&repair.slip) {
+        return text.extend_from_slice(
+            b"not written: of two equal letters in a word either may be the blank\n",
+        );
+    }
     if can_be_without(players, &repair.slip, repair.right.as_slice()) {
         return text.extend_from_slice(b"written: the sheet with the first repair\n");
     }
     text.extend_from_slice(b"not written: a player of the repaired sheet has no nickname\n")
+}
+
+/// Appends whether the sheet with a repair of its line is written, or why it is not.
+fn push_line_choice(text: &mut Vec<u8>, of_line: &Option<LineRepairs>) -> Result<(), AllocError> {
+    let choice = match of_line {
+        Some(repairs) => choice_of_line(repairs),
+        None => Choice::None,
+    };
+    text.extend_from_slice(match choice {
+        Choice::Sheet(_) => b"written: the sheet with the first repair\n",
+        Choice::Open =>
+            b"not written: it is not a record, and it is not known whether it is a game with the first repair\n",
+        Choice::NearSheet =>
+            b"not written: it is not a record, and another repair is as likely as the first, or nearly so, or the first leaves numbers wrong\n",
+        _ => b"not written: it is not a record\n",
+    })
 }
 
 /// Appends which sheet is written, or why none is.
@@ -36,7 +70,7 @@ pub fn push_choice(
     answer: &RepairAnswer,
 ) -> Result<(), AllocError> {
     let Ok(entry) = &case.read else {
-        return text.extend_from_slice(b"not written: it is not a record\n");
+        return push_line_choice(text, &answer.of_line);
     };
     let Some(faulty) = &answer.faulty else {
         return text.extend_from_slice(b"not written: there is nothing to repair\n");

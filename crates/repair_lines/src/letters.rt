@@ -1,6 +1,6 @@
 //! What the other repairs of a line have where they differ from the first.
 
-use record_changes::{CodeSlip, MissingLine, Slip, SpellingSlip, TileSlip};
+use record_changes::{CodeSlip, Misread, MissingLine, Slip, SpellingSlip, TileSlip};
 use ref_tiles::Kind;
 use sentence_parts::{Part, say};
 use std::alloc::AllocError;
@@ -31,6 +31,14 @@ fn push_tile(text: &mut Vec<u8>, slip: &TileSlip) -> Result<(), AllocError> {
     }
 }
 
+/// Appends the tile that is misread twice, as it should be.
+fn push_misread(text: &mut Vec<u8>, slip: &Misread) -> Result<(), AllocError> {
+    match slip {
+        Misread::Played { right, .. } => push_letter(text, Kind::Letter(*right).byte()),
+        Misread::Exchanged { right, .. } => push_letter(text, right.byte()),
+    }
+}
+
 /// Appends a number of tiles.
 fn push_number(text: &mut Vec<u8>, number: u8) -> Result<(), AllocError> {
     say(text, &[Part::Many(number as usize)])
@@ -41,6 +49,7 @@ pub(crate) fn push_difference(text: &mut Vec<u8>, slip: &Slip) -> Result<(), All
     match slip {
         Slip::Spelling(slip) => push_spelling(text, slip),
         Slip::Tile { slip, .. } => push_tile(text, slip),
+        Slip::Misread(slip) => push_misread(text, slip),
         Slip::Number(number) | Slip::Code(CodeSlip::Exchange(number)) => {
             push_number(text, *number)
         }

@@ -1,5 +1,6 @@
 //! The lines of an answer.
 
+use crate::bad_records::push_line_repairs;
 use crate::chains::push_chain;
 use crate::letters::push_difference;
 use crate::sheets::push_sheet;
@@ -8,14 +9,11 @@ use game_case::{Case, case_line};
 use gcg_read::Record;
 use record_changes::{numbers_with, numbers_with_both, second_spot};
 use record_repairs::Repair;
-use repair_answers::{Faulty, Item, RepairAnswer, Told, items_of};
+use repair_answers::{Faulty, Item, NumbersAlone, RepairAnswer, Told, WORDS_OF_SLIPS, items_of};
 use repair_pairs::{Head, Pair, Pairs};
 use repair_words::{push_change, push_change_at, push_change_of, push_evidence};
 use sentence_parts::{Part, say};
 use std::alloc::{AllocError, Global};
-
-/// How many words that are not in the list may come from slips.
-const WORDS_OF_SLIPS: usize = 3;
 
 /// Appends what the other repairs of a line have where they differ from the first.
 fn push_others(text: &mut Vec<u8>, repairs: &[Repair], others: &[usize]) -> Result<(), AllocError> {
@@ -155,6 +153,11 @@ fn push_item(
     }
 }
 
+/// Whether more words are not in the list than come from slips, if only the numbers are wrong.
+fn has_other_list(alone: &NumbersAlone) -> bool {
+    alone.remains.unlisted.len() > WORDS_OF_SLIPS
+}
+
 /// Appends that no single change helps, if that is so.
 fn push_none(text: &mut Vec<u8>, faulty: &Faulty) -> Result<(), AllocError> {
     if !faulty.lines.is_empty() {
@@ -163,11 +166,17 @@ fn push_none(text: &mut Vec<u8>, faulty: &Faulty) -> Result<(), AllocError> {
     text.extend_from_slice(b"none of ")?;
     push_number(text, faulty.tried)?;
     text.extend_from_slice(b" single changes ")?;
-    match (&faulty.alone, faulty.found.left.is_empty()) {
-        (Some(_), true) => text.extend_from_slice(b"leaves fewer errors\n"),
-        (Some(_), false) => text.extend_from_slice(b"is known to leave fewer errors\n"),
-        (None, true) => text.extend_from_slice(b"makes it a game\n"),
-        (None, false) => text.extend_from_slice(b"is known to make it a game\n"),
+    text.extend_from_slice(match (&faulty.alone, faulty.found.left.is_empty()) {
+        (Some(_), true) => b"leaves fewer errors",
+        (Some(_), false) => b"is known to leave fewer errors",
+        (None, true) => b"makes it a game",
+        (None, false) => b"is known to make it a game",
+    })?;
+    match &faulty.alone {
+        Some(alone) if has_other_list(alone) => {
+            text.extend_from_slice(b", but for letters that merely trade places\n")
+        }
+        _ => text.extend_from_slice(b"\n"),
     }
 }
 
@@ -187,6 +196,22 @@ fn push_left(text: &mut Vec<u8>, faulty: &Faulty) -> Result<(), AllocError> {
     )
 }
 
+/// Appends how many changes were not tried, and which, if there are any.
+fn push_untried(text: &mut Vec<u8>, record: &Record, faulty: &Faulty) -> Result<(), AllocError> {
+    if faulty.untried == 0 {
+        return Ok(());
+    }
+    push_number(text, faulty.untried)?;
+    text.extend_from_slice(b" of ")?;
+    push_number(text, faulty.changes)?;
+    text.extend_from_slice(b" changes were not tried, since the record is long")?;
+    if let Some(event) = record.events.as_slice().get(faulty.found.from) {
+        text.extend_from_slice(b": those before line ")?;
+        push_number(text, event.line as u128)?;
+    }
+    text.extend_from_slice(b"\n")
+}
+
 /// Appends that the game may have been played with another list, if with only its numbers corrected the record is a game, or may be one, and more words are
 /// not in the list than come from slips.
 fn push_other_list(text: &mut Vec<u8>, faulty: &Faulty) -> Result<(), AllocError> {
@@ -194,7 +219,7 @@ fn push_other_list(text: &mut Vec<u8>, faulty: &Faulty) -> Result<(), AllocError
         return Ok(());
     };
     let unlisted = alone.remains.unlisted.len();
-    if unlisted <= WORDS_OF_SLIPS {
+    if !has_other_list(alone) {
         return Ok(());
     }
     say(
@@ -221,10 +246,19 @@ fn push_faulty(
     }
     push_none(text, faulty)?;
     push_left(text, faulty)?;
+    push_untried(text, record, faulty)?;
     push_pairs(text, record, faulty)
 }
 
-/// Appends the answer on the case of a record: its verdict line and, if the record is illegal, its repairs with their evidence.
+/// Appends what repairs a text that is not a record, if it is none.
+fn push_of_line(text: &mut Vec<u8>, answer: &RepairAnswer) -> Result<(), AllocError> {
+    match &answer.of_line {
+        Some(repairs) => push_line_repairs(text, repairs),
+        None => Ok(()),
+    }
+}
+
+/// Appends the answer on the case of a record: its verdict line and, if the record is illegal or the text is not one, its repairs with their evidence.
 ///
 /// It fails only if memory runs out.
 pub fn push_repairs(
@@ -240,6 +274,6 @@ pub fn push_repairs(
             push_faulty(alloc, text, &entry.record, faulty)?;
             push_chain(text, &entry.record, &answer.chain)
         }
-        _ => Ok(()),
+        _ => push_of_line(text, answer),
     }
 }

@@ -21,6 +21,11 @@ pub(crate) fn push_sheet(
     repair: &SheetRepair,
 ) -> Result<(), AllocError> {
     push_sheet_slip(text, record.events.as_slice(), &repair.slip)?;
+    push_sheet_end(text, repair)
+}
+
+/// Appends whether a deal was found without a slip of the whole sheet, and the evidence for it.
+pub(crate) fn push_sheet_end(text: &mut Vec<u8>, repair: &SheetRepair) -> Result<(), AllocError> {
     text.extend_from_slice(if repair.alone.is_game {
         b"\n"
     } else {

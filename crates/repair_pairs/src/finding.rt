@@ -104,6 +104,7 @@ fn push_head(
     singles: &[Repair],
     at: HeadAt,
     most: usize,
+    limit: u64,
 ) -> Result<(), AllocError>
     requires walk { IsWalkOf rules.now list.now events.now walk.now }
     ensures { OnOk result (ArePairsSoFar rules.now list.now events.now singles.now pairs.old → ArePairsSoFar rules.now list.now events.now singles.now pairs.new) }
@@ -116,7 +117,7 @@ fn push_head(
     };
     let weight = weight_of(&first.change.slip);
     let below = below_of(singles, weight);
-    let found = repairs(alloc, rules, list, &mut made, &[], below, most)?;
+    let found = repairs(alloc, rules, list, &mut made, &[], below, most, Some(limit))?;
     let number = pairs.heads.len();
     push_pairs(
         &mut pairs.told,
@@ -139,6 +140,7 @@ fn pairs_of(
     events: &[Event],
     singles: &[Repair],
     most: usize,
+    limit: u64,
 ) -> Result<Pairs, AllocError>
     requires { IsWalkOf rules.now list.now events.now walk.now }
     ensures { IfOk result (ArePairsSoFar rules.now list.now events.now singles.now) }
@@ -150,13 +152,13 @@ fn pairs_of(
     if !is_open(walk, singles) {
         return Ok(pairs);
     }
-    let heads = heads_of(alloc, rules, list, walk, events)?;
+    let heads = heads_of(alloc, rules, list, walk, events, limit)?;
     for at in heads.as_slice() {
         if pairs.heads.len() == MOST_HEADS {
             return Ok(pairs);
         }
         push_head(
-            alloc, &mut pairs, rules, list, walk, events, singles, *at, most,
+            alloc, &mut pairs, rules, list, walk, events, singles, *at, most, limit,
         )?;
     }
     Ok(pairs)
@@ -180,7 +182,7 @@ fn first_of(alloc: Global, pairs: Pairs, most: usize) -> Result<Pairs, AllocErro
 /// and makes a record that none of them makes. Afterwards the events are as they were written.
 ///
 /// Pairs are looked for only if the rules refuse an event whatever its numbers are and no single repair is likely, and only among some first changes: there
-/// may be others.
+/// may be others. Each search that this takes ends once it took `limit` steps, about as many as the events that it went over.
 ///
 /// It fails only if memory runs out.
 pub fn pairs(
@@ -190,11 +192,21 @@ pub fn pairs(
     events: &mut Events,
     singles: &[Repair],
     most: usize,
+    limit: u64,
 ) -> Result<Pairs, AllocError>
     ensures told { IfOk result (ArePairs rules.now list.now events.old singles.now most) }
     ensures same { OnOk result (events.new ≡ events.old) }
 {
     let walk = walk_as_written(alloc, rules, list, events)?;
-    let found = pairs_of(alloc, rules, list, &walk, events.as_slice(), singles, most)?;
+    let found = pairs_of(
+        alloc,
+        rules,
+        list,
+        &walk,
+        events.as_slice(),
+        singles,
+        most,
+        limit,
+    )?;
     first_of(alloc, found, most)
 }

@@ -46,11 +46,12 @@ fn step_of(
     walk: &Walk,
     events: &[Event],
     below: u128,
+    limit: u64,
 ) -> Result<Option<Head>, AllocError>
     requires { IsWalkOf rules.now list.now events.now walk.now }
     ensures { IfOk result (λ step. IfSome step (IsStep rules.now list.now events.now)) }
 {
-    let heads = heads_of(alloc, rules, list, walk, events)?;
+    let heads = heads_of(alloc, rules, list, walk, events, limit)?;
     for at in heads.as_slice() {
         if at.cost >= below {
             return Ok(None);
@@ -66,13 +67,15 @@ fn step_of(
 /// The cheapest of the single changes of a record with which the rules allow the first refused event too, so that the fault moves on, with the record that it
 /// makes: if there is one that concerns only lines of the sheet and costs, up to that event, less than `below`. Afterwards the events are as they were.
 ///
-/// Nothing says that it is the only one, or the cheapest. It fails only if memory runs out.
+/// Nothing says that it is the only one, or the cheapest; the search ends once it took `limit` steps, about as many as the events that it went over. It fails
+/// only if memory runs out.
 pub fn first_step(
     alloc: Global,
     rules: &Rules,
     list: &WordList,
     events: &mut Events,
     below: u128,
+    limit: u64,
 ) -> Result<Option<Head>, AllocError>
     ensures step { IfOk result (λ step. IfSome step (IsStep rules.now list.now events.old)) }
     ensures same { OnOk result (events.new ≡ events.old) }
@@ -81,5 +84,5 @@ pub fn first_step(
     if walk.stopped.is_none() {
         return Ok(None);
     }
-    step_of(alloc, rules, list, &walk, events.as_slice(), below)
+    step_of(alloc, rules, list, &walk, events.as_slice(), below, limit)
 }

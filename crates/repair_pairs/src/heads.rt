@@ -59,9 +59,11 @@ fn game_after(
     start: usize,
     end: usize,
     list: &WordList,
+    spent: &mut u64,
 ) -> Option<Machine> {
     let mut machine = game.copy();
     for place in start..end {
+        *spent = spent.saturating_add(1);
         if mend(&mut machine, events, place, list).is_err() {
             return None;
         }
@@ -79,6 +81,7 @@ fn fault_stays(
     walk: &Walk,
     events: &[Event],
     change: &Change,
+    spent: &mut u64,
 ) -> Result<bool, AllocError> {
     let least = change.place.saturating_add(wrong_events(&change.slip));
     let end = least.saturating_add(NEAR).min(walk.rows.len());
@@ -98,7 +101,7 @@ fn fault_stays(
     };
     let mut near = apply(alloc, &here, there)?;
     let last = near.len().saturating_sub(1);
-    match game_after(game, &mut near, 0, last, list) {
+    match game_after(game, &mut near, 0, last, list, spent) {
         Some(machine) => Ok(machine.is_like(other)),
         None => Ok(true),
     }
@@ -152,7 +155,7 @@ fn front_cost(
     Ok(cost)
 }
 
-/// What a change costs, if the fault moves on with it.
+/// What a change costs, if the fault moves on with it. Adds the steps that this takes: about as many as the events that are gone over.
 fn head_cost(
     alloc: Global,
     rules: &Rules,
@@ -160,8 +163,9 @@ fn head_cost(
     walk: &Walk,
     events: &[Event],
     change: &Change,
+    spent: &mut u64,
 ) -> Result<Option<u128>, AllocError> {
-    if fault_stays(alloc, list, walk, events, change)? {
+    if fault_stays(alloc, list, walk, events, change, spent)? {
         return Ok(None);
     }
     let mut changed = apply(alloc, change, events)?;
@@ -170,9 +174,10 @@ fn head_cost(
     let Some(game) = walk.before(start) else {
         return Ok(None);
     };
-    if game_after(game, &mut changed, start, end, list).is_none() {
+    if game_after(game, &mut changed, start, end, list, spent).is_none() {
         return Ok(None);
     }
+    *spent = spent.saturating_add(3 * events.len() as u64);
     let mut sheet = sheet_with(alloc, change, events, changed.as_slice())?;
     let cost = front_cost(alloc, rules, list, &mut sheet, end)?;
     Ok(Some(cost.saturating_add(weight_of(&change.slip) as u128)))
@@ -187,6 +192,7 @@ fn push_heads(
     walk: &Walk,
     events: &[Event],
     place: usize,
+    spent: &mut u64,
 ) -> Result<(), AllocError> {
     if place > events.len() {
         return Ok(());
@@ -198,7 +204,7 @@ fn push_heads(
     let mut index: usize = 0;
     for slip in slips {
         let change = Change { place, slip };
-        if let Some(cost) = head_cost(alloc, rules, list, walk, events, &change)? {
+        if let Some(cost) = head_cost(alloc, rules, list, walk, events, &change, spent)? {
             found.push(HeadAt { place, index, cost })?;
         }
         index = index.saturating_add(1);
@@ -206,7 +212,36 @@ fn push_heads(
     Ok(())
 }
 
-/// The changes with which the fault moves on, those that cost least first, and of equal costs in the order of the list.
+/// The changes with which the fault moves on, in the order of the list. The last places are tried first; those before are not tried once the search took
+/// `limit` steps.
+fn heads_within(
+    alloc: Global,
+    rules: &Rules,
+    list: &WordList,
+    walk: &Walk,
+    events: &[Event],
+    limit: u64,
+) -> Result<Vec<HeadAt>, AllocError> {
+    let rows = walk.rows.len();
+    let mut spent = 0;
+    let mut found = Vec::new(alloc);
+    for behind in 0..rows + 1 {
+        if spent >= limit {
+            return Ok(found);
+        }
+        let mut here = Vec::new(alloc);
+        let place = rows - behind;
+        push_heads(
+            alloc, &mut here, rules, list, walk, events, place, &mut spent,
+        )?;
+        here.append(&mut found)?;
+        found = here;
+    }
+    Ok(found)
+}
+
+/// The changes with which the fault moves on, those that cost least first, and of equal costs in the order of the list. The search ends at a place once it
+/// took `limit` steps.
 ///
 /// It fails only if memory runs out.
 pub(crate) fn heads_of(
@@ -215,11 +250,9 @@ pub(crate) fn heads_of(
     list: &WordList,
     walk: &Walk,
     events: &[Event],
+    limit: u64,
 ) -> Result<Vec<HeadAt>, AllocError> {
-    let mut found = Vec::new(alloc);
-    for place in 0..walk.rows.len() + 1 {
-        push_heads(alloc, &mut found, rules, list, walk, events, place)?;
-    }
+    let mut found = heads_within(alloc, rules, list, walk, events, limit)?;
     found.sort_by_key(|head| head.cost)?;
     Ok(found)
 }

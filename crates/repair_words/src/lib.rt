@@ -16,4 +16,4 @@ mod words;
 pub use changes::{push_change, push_change_at};
 pub use evidence::{push_evidence, push_share};
 pub use likely::{push_amount, push_change_of, push_likely, push_numbers};
-pub use sheets::push_sheet_slip;
+pub use sheets::{push_sheet_slip, push_slip_difference};

@@ -1,6 +1,8 @@
 //! A slip of the whole sheet in words.
 
+use crate::words::push_position;
 use gcg_read::Event;
+use ref_board::{Dir, Square};
 use sentence_parts::say_of_line;
 use sheet_slips::{RunningSlip, SheetSlip, Way, changes};
 use std::alloc::AllocError;
@@ -17,11 +19,29 @@ fn push_unread(text: &mut Vec<u8>, line: UnreadLine) -> Result<(), AllocError> {
     say_of_line(text, "line ", line.line, what)
 }
 
+/// Appends that the place of the play is missing on the line with this number.
+fn push_no_place(text: &mut Vec<u8>, number: u32, at: Square, dir: Dir) -> Result<(), AllocError> {
+    say_of_line(text, "line ", number, ": the place is missing: ")?;
+    push_position(text, at, dir)
+}
+
+/// Appends in what a slip differs from another one of the same line: the place, or that the `>` should not be there.
+///
+/// It fails only if memory runs out.
+pub fn push_slip_difference(text: &mut Vec<u8>, slip: &SheetSlip) -> Result<(), AllocError> {
+    match slip {
+        SheetSlip::NoPlace { at, dir, .. } => push_position(text, *at, *dir),
+        SheetSlip::ExtraMark { .. } => text.extend_from_slice(b"without its >"),
+        SheetSlip::Unread(_) | SheetSlip::Running { .. } => Ok(()),
+    }
+}
+
 /// What a slip is about that runs through the sheet.
 fn about(slip: RunningSlip) -> &'static str {
     match slip {
         RunningSlip::Interchanged | RunningSlip::OneOff(_) => "all places",
         RunningSlip::OtherCase => "all words",
+        RunningSlip::CapitalBlanks => "all blanks",
         RunningSlip::OtherPlayer => "all lines",
     }
 }
@@ -42,6 +62,7 @@ fn wrong(slip: RunningSlip) -> &'static str {
         RunningSlip::Interchanged => " have row and column interchanged",
         RunningSlip::OneOff(way) => off(way),
         RunningSlip::OtherCase => " have small letters and capitals interchanged",
+        RunningSlip::CapitalBlanks => " are written as capitals",
         RunningSlip::OtherPlayer => " have the name of the other player",
     }
 }
@@ -82,6 +103,10 @@ pub fn push_sheet_slip(
 ) -> Result<(), AllocError> {
     match slip {
         SheetSlip::Unread(line) => push_unread(text, *line),
+        SheetSlip::ExtraMark { number } => {
+            say_of_line(text, "line ", *number, ": > should not be there")
+        }
+        SheetSlip::NoPlace { number, at, dir } => push_no_place(text, *number, *at, *dir),
         SheetSlip::Running { place, slip } => {
             text.extend_from_slice(about(*slip).as_bytes())?;
             push_from(text, events, *place, *slip)?;

@@ -5,9 +5,9 @@ use crate::names::nick;
 use crate::plays::{have_one_position, have_one_word};
 use crate::words::{push_kind, push_position, push_word};
 use gcg_read::{Event, EventKind, Players};
-use record_changes::{Slip, SpellingSlip, TilesOf};
+use record_changes::{Misread, Slip, SpellingSlip, TilesOf};
 use ref_board::{Dir, Square};
-use ref_tiles::Symbol;
+use ref_tiles::{Kind, Symbol};
 use sentence_parts::{Part, say};
 use std::alloc::AllocError;
 
@@ -155,6 +155,43 @@ fn push_tiles(
     }
 }
 
+/// Appends that a tile on the rack is another one too.
+fn push_on_rack(text: &mut Vec<u8>, written: u8, right: u8) -> Result<(), AllocError> {
+    say(
+        text,
+        &[
+            Part::Say(": the "),
+            Part::Letter(written),
+            Part::Say(" on the rack is "),
+            Part::Letter(right),
+            Part::Say(" too"),
+        ],
+    )
+}
+
+/// Appends that a tile is misread twice: what was played or exchanged, and the tile on the rack.
+fn push_misread(
+    text: &mut Vec<u8>,
+    slip: &Misread,
+    right: &Event,
+    written: &Event,
+) -> Result<(), AllocError> {
+    match slip {
+        Misread::Played {
+            tile,
+            right: one,
+            ..
+        } => {
+            push_spelled(text, right, written)?;
+            push_on_rack(text, Kind::Letter(*tile).byte(), Kind::Letter(*one).byte())
+        }
+        Misread::Exchanged { tile, right: one } => {
+            push_other(text, right, written)?;
+            push_on_rack(text, tile.byte(), one.byte())
+        }
+    }
+}
+
 /// Appends that a bonus or a penalty is another one.
 fn push_amount(text: &mut Vec<u8>, right: &Event, written: &Event) -> Result<(), AllocError> {
     push_kind(text, &right.kind)?;
@@ -200,6 +237,7 @@ fn push_changed(
         Slip::Spelling(slip) => push_text(text, slip, right, written),
         Slip::Replayed(_) => push_replayed(text, right, written),
         Slip::Tile { of, .. } => push_tiles(text, *of, right, written),
+        Slip::Misread(slip) => push_misread(text, slip, right, written),
         Slip::NoRack => push_racks(text, right, written),
         Slip::Number(_) | Slip::Code(_) | Slip::Rest(_) => push_other(text, right, written),
         Slip::Amount(_) => push_amount(text, right, written),

@@ -15,10 +15,11 @@ use Rattle.repaired_choices.specs.declared.repaired.RepairedChoice.{RepairedChoi
 use Rattle.repaired_choices.specs.declared.repaired.RepairedChoices.{RepairedChoices}
 use Rattle.repaired_choices.specs.declared.repaired.BestRepair.{BestRepair}
 
--- a choice that was tried, with its events and the first two of their repairs: single changes after which they are a game, once their numbers are corrected
+-- a choice that was tried, with its events and the first two of their repairs: single changes after which they are a game, once their numbers are corrected.
+-- The changes at the first places may not have been tried.
 pub record IsRepairedChoice (rules : Rules) (list : List (List ℕ)) (s : Sheets) (r : RepairedChoice) : Type 0 where
   pub written : r.written ≡ choice_events s Taken r.choice
-  pub first : AreFirstRepairs rules list r.written [] r.below 2 r.found.told.items r.found.left.items
+  pub first : AreFirstRepairs rules list r.written [] r.below r.found.from 2 r.found.told.items r.found.left.items
 
 -- The choices that were tried: none if one makes a game, or is left open.
 pub record AreTried (rules : Rules) (list : List (List ℕ)) (s : Sheets) (f : Find) (tried : List RepairedChoice) : Type 0 where
@@ -55,9 +56,9 @@ AreBehind best r = All (IsBehind best) r.found.told.items
 abbrev pub AreGames : Rules → (list : List (List ℕ)) → (tried : List RepairedChoice) → Type 0
 AreGames rules list tried = (place : ℕ) (r : RepairedChoice) (repair : Repair) → slice_get tried place ≡ Some r → first_of r ≡ Some repair → AreAllowed rules list repair.right
 
--- no change of a choice is left open
+-- each change of a choice was tried, and none is left open
 abbrev pub IsSettled : RepairedChoice → Type 0
-IsSettled r = length r.found.left.items ≡ 0
+IsSettled r = (length r.found.left.items ≡ 0) × (r.found.from ≡ 0)
 
 -- The choice whose first repair costs the least of all first repairs, and whether that repair is ahead of all others.
 pub record IsBest (rules : Rules) (tried : List RepairedChoice) (b : BestRepair) : Type 0 where

@@ -45,14 +45,14 @@ pub(crate) fn is_ahead(best: &Repair, tried: &[RepairedChoice]) -> bool
     true
 }
 
-/// Whether no change of a choice is left open.
+/// Whether each change of a choice was tried, and none is left open.
 fn settles(choice: &RepairedChoice) -> bool
     ensures { IsTrue result ↔ IsSettled choice.now }
 {
-    choice.found.left.is_empty()
+    choice.found.left.is_empty() && choice.found.from == 0
 }
 
-/// Whether no change of some choices is left open.
+/// Whether each change of some choices was tried, and none is left open.
 pub(crate) fn is_settled(tried: &[RepairedChoice]) -> bool
     ensures { IsTrue result ↔ All IsSettled tried.now }
 {

@@ -15,6 +15,9 @@ use std::alloc::{AllocError, Global};
 /// How many repairs of each choice are kept: the first, and one that may cost as little.
 const MOST_REPAIRS: usize = 2;
 
+/// How many steps the search for the repairs of a choice may take: about as many as the events that it goes over.
+const LIMIT: u64 = 1_000_000;
+
 /// Fewer numbers and words than these stay wrong with each repair that costs no more than those before, as each costs at least 3.
 fn below_of(tried: &[RepairedChoice]) -> Option<usize> {
     let least = least_of(tried)?;
@@ -37,7 +40,16 @@ fn repaired_by(
     ensures { IfOk result (IsRepairedChoice rules.now list.now sheets.now) }
 {
     let mut written = events_of(alloc, sheets, choice)?;
-    let found = repairs(alloc, rules, list, &mut written, &[], below, MOST_REPAIRS)?;
+    let found = repairs(
+        alloc,
+        rules,
+        list,
+        &mut written,
+        &[],
+        below,
+        MOST_REPAIRS,
+        Some(LIMIT),
+    )?;
     Ok(RepairedChoice {
         choice,
         written,

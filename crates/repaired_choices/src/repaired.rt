@@ -28,7 +28,7 @@ pub struct BestRepair {
     pub complete: bool,
     /// Whether each other repair of a choice that was tried costs more or makes a record of the same game.
     pub ahead: bool,
-    /// Whether no change of a choice that was tried is left open.
+    /// Whether each change of the choices that were tried was tried too, and none is left open.
     pub settled: bool,
 }
 

@@ -8,7 +8,7 @@ use Rattle.sheet_slips.specs.declared.slips.SheetSlip.TheVariants as slip
 use Rattle.sheet_slips.specs.Mending.{mended_text}
 use Rattle.repaired_sheets.specs.Running.{text_without}
 
--- With the line that is not read as an event, and the right numbers on each line; or with the lines that the slip changes written anew.
+-- With the lines that a slip changes that runs through the sheet written anew; or without a slip that is on one line, and with the right numbers on each line.
 abbrev pub sheet_without : SheetSlip → Players → (right : List Event) → (text : List ℕ) → List ℕ
-sheet_without (slip.Unread line) players right text = text_with right (mended_text line text)
 sheet_without (slip.Running place s) players right text = text_without s place players right text
+sheet_without other players right text = text_with right (mended_text other text)

@@ -10,18 +10,17 @@ use gcg_numbers::push_with_numbers;
 use gcg_read::{Event, Players};
 use sheet_slips::{SheetSlip, mended_text};
 use std::alloc::{AllocError, Global};
-use unread_lines::UnreadLine;
 
-/// The text of a sheet in which a line that is not read is an event, with the right numbers.
+/// The text of a sheet without a slip that is on one line, with the right numbers.
 fn text_with_line(
     alloc: Global,
     text: &[u8],
-    line: UnreadLine,
+    slip: &SheetSlip,
     right: &[Event],
 ) -> Result<Vec<u8>, AllocError>
-    ensures { IfOk result (λ made. made.items ≡ text_with right.now (mended_text line text.now)) }
+    ensures { IfOk result (λ made. made.items ≡ text_with right.now (mended_text slip.now text.now)) }
 {
-    let mended = mended_text(alloc, line, text)?;
+    let mended = mended_text(alloc, slip, text)?;
     let mut out = Vec::new(alloc);
     push_with_numbers(&mut out, mended.as_slice(), right)?;
     Ok(out)
@@ -42,7 +41,9 @@ pub fn sheet_without(
     ensures { IfOk result (λ made. made.items ≡ sheet_without slip.now players.now right.now text.now) }
 {
     match slip {
-        SheetSlip::Unread(line) => text_with_line(alloc, text, *line, right),
+        SheetSlip::Unread(_) | SheetSlip::ExtraMark { .. } | SheetSlip::NoPlace { .. } => {
+            text_with_line(alloc, text, slip, right)
+        }
         SheetSlip::Running {
             place,
             slip: running,
@@ -53,7 +54,7 @@ pub fn sheet_without(
 /// Whether a sheet with these players can be written without a slip of the whole sheet: a line that is written anew needs a nickname.
 pub fn can_be_without(players: &Players, slip: &SheetSlip, right: &[Event]) -> bool {
     match slip {
-        SheetSlip::Unread(_) => true,
+        SheetSlip::Unread(_) | SheetSlip::ExtraMark { .. } | SheetSlip::NoPlace { .. } => true,
         SheetSlip::Running { .. } => can_be_written(players, right),
     }
 }

@@ -5,8 +5,11 @@ ghost use Rattle.ref_tiles.specs.declared.rulebook.Rules.{Rules};
 ghost use Rattle.gcg_read.specs.Numerals.{IsPoints};
 ghost use Rattle.gcg_read.specs.declared.events.Event.{Event};
 ghost use Rattle.lex_check.specs.Pairs.{list_in};
+ghost use Rattle.game_turns.specs.Machines.{state_of};
 ghost use Rattle.game_turns.specs.Tallies.{tally_at};
 ghost use Rattle.game_notes.specs.Following.{Follows};
+ghost use Rattle.event_notes.specs.Bests.{IsTurnBest};
+ghost use Rattle.known_bests.specs.Known.{AreKnown};
 ghost use Rattle.game_rows.specs.Walks.{IsWalk};
 ghost use Rattle.score_sheets.specs.Unders.{known_under};
 ghost use Rattle.score_sheets.specs.Rows.{should_be, known_if, total_should_be, numbers_behind, HasNumbersAt, IsBeforeAt, IsBestAt, IsNotedAt, IsSheetRowAt, AreSheetRows};
@@ -14,16 +17,20 @@ ghost use Rattle.score_sheets.specs.Rows.{should_be, known_if, total_should_be, 
 use crate::boards::is_taken_back;
 use crate::gains::given_by;
 use crate::unders::cells_under;
-use event_notes::{SpelledWord, TurnBest, best_of_turn, unlisted_of};
+use event_notes::{SpelledWord, TurnBest, unlisted_of};
 use game_notes::Follow;
 use game_rows::{Numbers, Row, Stop, Walk};
 use game_sheets::{due, had_before, is_right_sum};
 use game_turns::{Machine, legal_play};
 use gcg_read::{Event, EventKind, Points};
+use known_bests::{KnownBests, find_best_of_turn, known_best_of_turn};
 use lex_check::Checked;
 use lex_list::WordList;
 use ref_tiles::{Rules, Tile};
 use std::alloc::{AllocError, Global};
+
+/// How many best plays are kept while the rows of a sheet are made.
+const KEPT_BESTS: usize = 64;
 
 /// What a score sheet says of an event besides its line.
 #[derive(Drop)]
@@ -140,6 +147,27 @@ struct BestThere {
     under: Vec<Option<Tile>>,
 }
 
+/// What is said of the best play of an event that gave `gave` points; `machine` is before it. It searches only for what is not known.
+fn turn_best(
+    rules: &Rules,
+    pair: &Checked<'_>,
+    machine: &Machine,
+    follow: &Follow,
+    event: &Event,
+    gave: i32,
+    known: &mut KnownBests,
+) -> TurnBest
+    requires follows { Follows rules.now (list_in pair.now) follow.now }
+    requires known { AreKnown rules.now (list_in pair.now) known.old }
+    ensures best { IsTurnBest rules.now (list_in pair.now) (state_of machine.now) event.now gave result }
+    ensures known { AreKnown rules.now (list_in pair.now) known.new }
+{
+    if let Some(best) = known_best_of_turn(known, machine, event, gave) {
+        return best;
+    }
+    find_best_of_turn(rules, pair, machine, follow, event, gave, known)
+}
+
 /// What is said of the best play of the event at a place, which gave `gave` points.
 fn best_at(
     alloc: Global,
@@ -147,18 +175,21 @@ fn best_at(
     pair: &Checked<'_>,
     walk: &Walk,
     follow: &Follow,
+    known: &mut KnownBests,
     place: usize,
     event: &Event,
     gave: i32,
 ) -> Result<BestThere, AllocError>
-    requires { Follows rules.now (list_in pair.now) follow.now }
-    ensures { IfOk result (λ there. (written right : List Event) → IsWalk rules.now (list_in pair.now) written right walk.now → place < length written
+    requires follows { Follows rules.now (list_in pair.now) follow.now }
+    requires known { AreKnown rules.now (list_in pair.now) known.old }
+    ensures known { OnOk result (AreKnown rules.now (list_in pair.now) known.new) }
+    ensures best { IfOk result (λ there. (written right : List Event) → IsWalk rules.now (list_in pair.now) written right walk.now → place < length written
         → IsBestAt rules.now (list_in pair.now) right place event.now gave there.best
         × (there.under.items ≡ known_under (tally_at rules.now right place).board there.best)) }
 {
     match game_before(walk, place) {
         Some(machine) => {
-            let best = best_of_turn(rules, pair, machine, follow, event, gave);
+            let best = turn_best(rules, pair, machine, follow, event, gave, known);
             let under = cells_under(alloc, machine.board(), &best)?;
             Ok(BestThere {
                 best: Some(best),
@@ -207,18 +238,21 @@ fn row_at(
     events: &[Event],
     walk: &Walk,
     follow: &Follow,
+    known: &mut KnownBests,
     place: usize,
 ) -> Result<SheetRow, AllocError>
     requires place { place < length events.now }
     requires follows { Follows rules.now (list_in pair.now) follow.now }
-    ensures { IfOk result (λ row. (right : List Event) → IsWalk rules.now (list_in pair.now) events.now right walk.now
+    requires known { AreKnown rules.now (list_in pair.now) known.old }
+    ensures known { OnOk result (AreKnown rules.now (list_in pair.now) known.new) }
+    ensures row { IfOk result (λ row. (right : List Event) → IsWalk rules.now (list_in pair.now) events.now right walk.now
         → IsSheetRowAt rules.now (list_in pair.now) events.now right place row) }
 {
     let event = &events[place];
     let right = right_numbers(walk, place, event);
     let taken_back = is_taken_back(events, place);
     let gave = given_by(taken_back, right.score);
-    let there = best_at(alloc, rules, pair, walk, follow, place, event, gave)?;
+    let there = best_at(alloc, rules, pair, walk, follow, known, place, event, gave)?;
     let noted = noted_at(alloc, pair.list(), walk, place)?;
     let had = had_before(events, event.player, place);
     let due = known_if(noted.allowed, right.total);
@@ -269,9 +303,10 @@ pub fn rows_of(
         → AreSheetRows rules.now (list_in pair.now) events.now right (length events.now) rows.items) }
 {
     let mut follow = Follow::new(rules, pair);
+    let mut known = KnownBests::new(alloc, KEPT_BESTS)?;
     let mut rows = Vec::new(alloc);
     for place in 0..events.len() {
-        let row = row_at(alloc, rules, pair, events, walk, &follow, place)?;
+        let row = row_at(alloc, rules, pair, events, walk, &follow, &mut known, place)?;
         follow_play(rules, pair, &events[place], row.taken_back, &mut follow);
         rows.push(row)?;
     }

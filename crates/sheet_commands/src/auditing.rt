@@ -11,7 +11,7 @@ use std::rt::{Files, Runtime};
 
 /// Why the corrected record is not written although it stands.
 const NOT_CORRECTED: &[u8] =
-    b"not written: first say which it is, the bonus or the penalty after Or: or the wrong number\n";
+    b"not written: either the bonus or penalty after Or: is missing, or the number is wrong\n";
 
 /// Reports the audit of a sheet: writes each wrong number, what would explain them, the verdict of the corrected record and who is ahead to standard
 /// output, and that record in its normal form to the output `out`, if one is named and the record is to be written. If that is standard output, the

@@ -8,12 +8,16 @@ use exit_statuses::{Exit, Trouble, exit_of_case};
 use game_case::Case;
 use game_rows::{Numbers, renumber};
 use gcg_numbers::push_with_numbers;
+use gcg_read::Players;
 use lex_check::Checked;
 use name_texts::Encoding;
 use record_repairs::Repair;
 use ref_tiles::Rules;
-use repair_answers::{Choice, Faulty, RepairAnswer, SheetRepair, answer_repairs, choice_of};
-use repair_lines::{push_choice, push_repairs};
+use repair_answers::{
+    Choice, Faulty, LineRepairs, RepairAnswer, SheetRepair, answer_repairs, choice_of,
+    choice_of_line,
+};
+use repair_lines::{push_choice, push_repairs, says_each_line};
 use repaired_sheets::{can_be_without, can_be_written, repaired_text, sheet_without};
 use std::alloc::{AllocError, Global};
 use std::rt::Runtime;
@@ -92,7 +96,7 @@ fn sheet_of(
     };
     let players = &entry.record.players;
     let right = repair.right.as_slice();
-    if !can_be_without(players, &repair.slip, right) {
+    if !says_each_line(&repair.slip) || !can_be_without(players, &repair.slip, right) {
         return Ok(None);
     }
     let text = sheet_without(alloc, case.text.as_slice(), players, &repair.slip, right)?;
@@ -132,6 +136,35 @@ fn chosen_sheet(
     }
 }
 
+/// The text of the sheet of a case that is not a record, with the repair of its line that is to be chosen; `None` if there is none.
+fn sheet_of_line(
+    alloc: Global,
+    case: &Case,
+    repairs: &LineRepairs,
+) -> Result<Option<Vec<u8>>, AllocError> {
+    let Choice::Sheet(repair) = choice_of_line(repairs) else {
+        return Ok(None);
+    };
+    let text = case.text.as_slice();
+    let right = repair.right.as_slice();
+    let players = Players::unnamed(alloc);
+    let made = sheet_without(alloc, text, &players, &repair.slip, right)?;
+    Ok(Some(made))
+}
+
+/// The text of the sheet that is to be written for an answer; `None` if there is none.
+fn sheet_to_keep(
+    alloc: Global,
+    case: &mut Case,
+    answer: &RepairAnswer,
+) -> Result<Option<Vec<u8>>, AllocError> {
+    match (&answer.faulty, &answer.of_line) {
+        (Some(faulty), _) => chosen_sheet(alloc, case, faulty),
+        (None, Some(repairs)) => sheet_of_line(alloc, case, repairs),
+        (None, None) => Ok(None),
+    }
+}
+
 /// Writes the sheet that is to be chosen to the output `out`, which it opens once the text is made.
 fn keep<'a, R: Runtime + AllocGlobal>(
     rt: &R,
@@ -139,10 +172,7 @@ fn keep<'a, R: Runtime + AllocGlobal>(
     case: &mut Case,
     answer: &RepairAnswer,
 ) -> Result<(), Trouble<'a>> {
-    let Some(faulty) = &answer.faulty else {
-        return Ok(());
-    };
-    match chosen_sheet(rt.alloc(), case, faulty) {
+    match sheet_to_keep(rt.alloc(), case, answer) {
         Ok(Some(text)) => write_out(rt, out, text.as_slice()),
         Ok(None) => Ok(()),
         Err(_) => Err(Trouble::NoMemory),

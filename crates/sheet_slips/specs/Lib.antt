@@ -1,7 +1,10 @@
 pub mod Squares
+pub mod Blanks
 pub mod Righting
 pub mod Running
+pub mod Places
 pub mod Mending
 pub mod Undoing
 pub mod Weights
 pub mod Listing
+pub mod BadListing

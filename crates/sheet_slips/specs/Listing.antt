@@ -13,6 +13,7 @@ use Rattle.sheet_slips.specs.declared.slips.RunningSlip.TheVariants as running
 use Rattle.sheet_slips.specs.declared.slips.SheetSlip.{SheetSlip}
 use Rattle.sheet_slips.specs.declared.slips.SheetSlip.TheVariants as slip
 use Rattle.sheet_slips.specs.declared.slips.Way.TheVariants as way
+use Rattle.sheet_slips.specs.Blanks.{has_capital}
 use Rattle.sheet_slips.specs.Righting.{is_play}
 
 -- ---- slips that run through the sheet
@@ -25,16 +26,22 @@ is_turn (kind.Exchange tiles) = true
 is_turn (kind.ExchangeUnknown n) = true
 is_turn other = false
 
--- A slip begins on the line of a play; if the players are exchanged, on that of a turn.
-abbrev pub may_begin : RunningSlip → EventKind → Bool
-may_begin running.OtherPlayer what = is_turn what
-may_begin other what = is_play what
+-- A slip begins on the line of a play; if blanks are capitals, on one with such a capital; and if the players are exchanged, on that of a turn.
+abbrev pub may_begin : RunningSlip → Event → Bool
+may_begin running.OtherPlayer e = is_turn e.kind
+may_begin running.CapitalBlanks e = has_capital e.rack e.kind
+may_begin other e = is_play e.kind
 
--- It may begin with the first of these events, and it goes on with two others at least on which it may begin: a slip on one line or on two is not one of the
--- whole sheet.
+-- On how many other lines at least a slip may begin with which it goes on: a slip on one line or on two is not one of the whole sheet. But a game has only two
+-- blanks.
+abbrev pub fewest_others : RunningSlip → ℕ
+fewest_others running.CapitalBlanks = 1
+fewest_others other = 2
+
+-- It may begin with the first of these events, and goes on.
 abbrev pub runs_on : RunningSlip → List Event → Bool
 runs_on s [] = false
-runs_on s (e ∷ events) = may_begin s e.kind && nat_le 2 (count_by (λ (other : Event). may_begin s other.kind) events)
+runs_on s (e ∷ events) = may_begin s e && nat_le (fewest_others s) (count_by (may_begin s) events)
 
 abbrev pub running_from : List Event → (place : ℕ) → RunningSlip → List SheetSlip
 running_from events place s = if runs_on s (drop place events) then slip.Running place s ∷ [] else []
@@ -44,7 +51,7 @@ unfoldable pub running_at : List Event → (place : ℕ) → List SheetSlip
 running_at events place =
     running_from events place running.Interchanged ++ running_from events place (running.OneOff way.Left) ++ running_from events place (running.OneOff way.Right)
     ++ running_from events place (running.OneOff way.Up) ++ running_from events place (running.OneOff way.Down) ++ running_from events place running.OtherCase
-    ++ running_from events place running.OtherPlayer
+    ++ running_from events place running.CapitalBlanks ++ running_from events place running.OtherPlayer
 
 -- ---- lines that are not read
 

@@ -1,5 +1,5 @@
 -- An event without a slip that runs through a sheet.
-use Rattle.std.specs.Prelude.{ℕ, Bool, true, false, List, map, is_some}
+use Rattle.std.specs.Prelude.{ℕ, Bool, true, false, List, map, Option, is_some}
 use Rattle.std.specs.Option.{unwrap_or}
 use Rattle.ref_tiles.specs.declared.symbols.Symbol.{Symbol}
 use Rattle.ref_tiles.specs.declared.symbols.Symbol.TheVariants as symbol
@@ -13,6 +13,7 @@ use Rattle.gcg_read.specs.declared.events.Seat.{Seat}
 use Rattle.sheet_slips.specs.declared.slips.RunningSlip.{RunningSlip}
 use Rattle.sheet_slips.specs.declared.slips.RunningSlip.TheVariants as running
 use Rattle.sheet_slips.specs.declared.slips.Way.{Way}
+use Rattle.sheet_slips.specs.Blanks.{laid_by, has_blank}
 use Rattle.sheet_slips.specs.Squares.{next_square}
 
 -- ---- a play
@@ -33,17 +34,18 @@ other_case symbol.Dot = symbol.Dot
 other_case (symbol.Letter letter) = symbol.Blank letter
 other_case (symbol.Blank letter) = symbol.Letter letter
 
--- its text
-abbrev pub right_word : RunningSlip → List Symbol → List Symbol
-right_word running.OtherCase word = map other_case word
-right_word other word = word
+-- its text, given the rack that its line states
+abbrev pub right_word : RunningSlip → (rack : Option (List ℕ)) → List Symbol → List Symbol
+right_word running.OtherCase rack word = map other_case word
+right_word running.CapitalBlanks rack word = laid_by rack word
+right_word other rack word = word
 
 -- ---- an event
 
--- what happened
-abbrev pub right_kind : RunningSlip → EventKind → EventKind
-right_kind s (kind.Play at d word) = kind.Play (right_square s at) (right_dir s d) (right_word s word)
-right_kind s other = other
+-- what happened, given the rack that its line states
+abbrev pub right_kind : RunningSlip → (rack : Option (List ℕ)) → EventKind → EventKind
+right_kind s rack (kind.Play at d word) = kind.Play (right_square s at) (right_dir s d) (right_word s rack word)
+right_kind s rack other = other
 
 -- the player whose line it is
 abbrev pub right_player : RunningSlip → Seat → Seat
@@ -52,7 +54,7 @@ right_player other player = player
 
 -- the event without the slip
 abbrev pub right_event : RunningSlip → Event → Event
-right_event s e = record e { player = right_player s e.player; kind = right_kind s e.kind }
+right_event s e = record e { player = right_player s e.player; kind = right_kind s e.rack e.kind }
 
 -- ---- whether an event may have the slip
 
@@ -65,11 +67,13 @@ abbrev pub may_have : RunningSlip → EventKind → Bool
 may_have (running.OneOff way) what = has_next way what
 may_have other what = true
 
--- whether the line of an event is another one with the slip than without it: that of a play, or if the players are exchanged, each
 abbrev pub is_play : EventKind → Bool
 is_play (kind.Play at d word) = true
 is_play other = false
 
+-- Whether the line of an event is another one with the slip than without it: that of a play; if blanks are capitals, of one with a blank; and if the players
+-- are exchanged, each.
 abbrev pub changes : RunningSlip → EventKind → Bool
 changes running.OtherPlayer what = true
+changes running.CapitalBlanks what = has_blank what
 changes other what = is_play what

@@ -18,8 +18,8 @@ events_of (Err fault) = None
 unfoldable pub events_in : (text : List ℕ) → Option (List Event)
 events_in text = events_of (record_of text)
 
--- With the line that is not read as an event, those of the text; or those that were written, without the slip that runs through them. None if the text is
--- not a record then, or the slip cannot be on each of these lines.
+-- Those that were written, without the slip that runs through them; or those of the text without a slip that is on one line. None if the slip cannot be on each
+-- of these lines, or the text is not a record then.
 abbrev pub without_slip : SheetSlip → (text : List ℕ) → (written : List Event) → Option (List Event)
-without_slip (slip.Unread line) text written = events_in (mended_text line text)
 without_slip (slip.Running place s) text written = running_without s place written
+without_slip other text written = events_in (mended_text other text)

@@ -1,9 +1,9 @@
 //! Where a slip that runs through a sheet may begin.
 ghost use Rattle.std.specs.Prelude.{◌≡◌};
 ghost use Rattle.std.specs.List.{count_by};
-ghost use Rattle.gcg_read.specs.declared.events.Event.{Event};
-ghost use Rattle.sheet_slips.specs.Listing.{is_turn, may_begin, runs_on};
+ghost use Rattle.sheet_slips.specs.Listing.{is_turn, may_begin, fewest_others, runs_on};
 
+use crate::blanks::has_capital;
 use crate::righting::is_play;
 use crate::slips::RunningSlip;
 use gcg_read::{Event, EventKind};
@@ -23,31 +23,41 @@ fn is_turn(kind: &EventKind) -> bool
 }
 
 /// Whether a slip may begin on the line of an event.
-fn may_begin(slip: RunningSlip, kind: &EventKind) -> bool
-    ensures { result ≡ may_begin slip kind.now }
+fn may_begin(slip: RunningSlip, event: &Event) -> bool
+    ensures { result ≡ may_begin slip event.now }
 {
     match slip {
-        RunningSlip::OtherPlayer => is_turn(kind),
-        _ => is_play(kind),
+        RunningSlip::OtherPlayer => is_turn(&event.kind),
+        RunningSlip::CapitalBlanks => has_capital(&event.rack, &event.kind),
+        _ => is_play(&event.kind),
     }
 }
 
 /// On the lines of how many of these events a slip may begin.
 fn many_may_begin(slip: RunningSlip, events: &[Event]) -> usize
-    ensures { result ≡ count_by (λ (e : Event). may_begin slip e.kind) events.now }
+    ensures { result ≡ count_by (may_begin slip) events.now }
 {
-    events
-        .iter()
-        .filter(|event| may_begin(slip, &event.kind))
-        .count()
+    events.iter().filter(|event| may_begin(slip, event)).count()
 }
 
-/// Whether a slip may begin with the first of these events, and go on with two others at least.
+/// On how many other lines at least a slip may begin with which it goes on.
+fn fewest_others(slip: RunningSlip) -> usize
+    ensures { result ≡ fewest_others slip }
+{
+    match slip {
+        RunningSlip::CapitalBlanks => 1,
+        _ => 2,
+    }
+}
+
+/// Whether a slip may begin with the first of these events, and goes on.
 pub(crate) fn runs_on(slip: RunningSlip, events: &[Event]) -> bool
     ensures { result ≡ runs_on slip events.now }
 {
     match events {
         [] => false,
-        [first, rest @ ..] => may_begin(slip, &first.kind) && many_may_begin(slip, rest) >= 2,
+        [first, rest @ ..] => {
+            may_begin(slip, first) && many_may_begin(slip, rest) >= fewest_others(slip)
+        }
     }
 }

@@ -44,6 +44,7 @@ fn push_running(
     push_from(slips, events, place, RunningSlip::OneOff(Way::Up))?;
     push_from(slips, events, place, RunningSlip::OneOff(Way::Down))?;
     push_from(slips, events, place, RunningSlip::OtherCase)?;
+    push_from(slips, events, place, RunningSlip::CapitalBlanks)?;
     push_from(slips, events, place, RunningSlip::OtherPlayer)
 }
 

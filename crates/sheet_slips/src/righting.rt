@@ -2,13 +2,14 @@
 ghost use Rattle.std.specs.Prelude.{◌≡◌, ◌≤◌, map, length, is_some};
 ghost use Rattle.sheet_slips.specs.Righting.{right_square, right_dir, other_case, right_word, right_kind, right_player, right_event, has_next, may_have, is_play, changes};
 
+use crate::blanks::{has_blank, laid_by};
 use crate::copying::{copy_kind, copy_text};
 use crate::slips::{RunningSlip, Way};
 use crate::squares::next_square;
 use arrayvec::ArrayVec;
 use gcg_read::{Event, EventKind, Seat, Text};
 use ref_board::{Dir, SIDE, Square};
-use ref_tiles::Symbol;
+use ref_tiles::{Counts, Symbol};
 
 /// The square on which a play begins.
 fn right_square(slip: RunningSlip, at: Square) -> Square
@@ -61,25 +62,26 @@ fn in_other_case(word: &Text) -> Text
     Text::new(&symbols).unwrap()
 }
 
-/// The text of a play.
-fn right_word(slip: RunningSlip, word: &Text) -> Text
-    ensures { result ≡ right_word slip word.now }
+/// The text of a play, given the rack that its line states.
+fn right_word(slip: RunningSlip, rack: &Option<Counts>, word: &Text) -> Text
+    ensures { result ≡ right_word slip rack.now word.now }
 {
     match slip {
         RunningSlip::OtherCase => in_other_case(word),
+        RunningSlip::CapitalBlanks => laid_by(rack, word),
         _ => copy_text(word),
     }
 }
 
-/// What happened.
-fn right_kind(slip: RunningSlip, kind: &EventKind) -> EventKind
-    ensures { result ≡ right_kind slip kind.now }
+/// What happened, given the rack that the line states.
+fn right_kind(slip: RunningSlip, rack: &Option<Counts>, kind: &EventKind) -> EventKind
+    ensures { result ≡ right_kind slip rack.now kind.now }
 {
     match kind {
         EventKind::Play { at, dir, word } => EventKind::Play {
             at: right_square(slip, *at),
             dir: right_dir(slip, *dir),
-            word: right_word(slip, word),
+            word: right_word(slip, rack, word),
         },
         _ => copy_kind(kind),
     }
@@ -103,7 +105,7 @@ pub(crate) fn right_event(slip: RunningSlip, event: &Event) -> Event
         line: event.line,
         player: right_player(slip, event.player),
         rack: event.rack,
-        kind: right_kind(slip, &event.kind),
+        kind: right_kind(slip, &event.rack, &event.kind),
         score: event.score,
         total: event.total,
     }
@@ -136,12 +138,14 @@ pub(crate) fn is_play(kind: &EventKind) -> bool
     matches!(kind, EventKind::Play { .. })
 }
 
-/// Whether the line of an event is another one with the slip than without it: that of a play, or, if the players are exchanged, each.
+/// Whether the line of an event, which is without the slip, is another one with it: that of a play; if blanks are capitals, of one with a blank; or, if the
+/// players are exchanged, each.
 pub fn changes(slip: RunningSlip, kind: &EventKind) -> bool
     ensures { result ≡ changes slip kind.now }
 {
     match slip {
         RunningSlip::OtherPlayer => true,
+        RunningSlip::CapitalBlanks => has_blank(kind),
         _ => is_play(kind),
     }
 }

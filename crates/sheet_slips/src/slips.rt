@@ -1,5 +1,6 @@
-//! What may be wrong with a whole sheet.
+//! What may be wrong with a whole sheet, or with a line that no record can have.
 
+use ref_board::{Dir, Square};
 use unread_lines::UnreadLine;
 
 /// Where a square is, seen from the one next to it.
@@ -24,6 +25,8 @@ pub enum RunningSlip {
     OneOff(Way),
     /// In the word of each play, capitals are small letters and small letters are capitals.
     OtherCase,
+    /// A blank is written as a capital: the rack of its line has no tile for that, but a blank.
+    CapitalBlanks,
     /// Each line has the name of the other player.
     OtherPlayer,
 }
@@ -33,6 +36,20 @@ pub enum RunningSlip {
 pub enum SheetSlip {
     /// This line is not read, but should be an event.
     Unread(UnreadLine),
+    /// No record can have the line with this number: the `>` that it begins with should not be there, or one of two.
+    ExtraMark {
+        /// Its number, counted from 1.
+        number: u32,
+    },
+    /// No record can have the line with this number: the place of its play is not written.
+    NoPlace {
+        /// Its number, counted from 1.
+        number: u32,
+        /// The square on which the play begins.
+        at: Square,
+        /// Its direction.
+        dir: Dir,
+    },
     /// The same slip is on each line from one on.
     Running {
         /// The place of the first event with it.

@@ -9,18 +9,17 @@ use crate::running::running_without;
 use crate::slips::SheetSlip;
 use gcg_read::{Event, Events};
 use std::alloc::{AllocError, Global};
-use unread_lines::UnreadLine;
 
-/// The events of a text in which a line that is not read is an event, if it is a record then.
-fn with_line(alloc: Global, unread: UnreadLine, text: &[u8]) -> Result<Option<Events>, AllocError>
-    ensures { IfOk result (λ events. events ≡ events_in (mended_text unread text.now)) }
+/// The events of a text without a slip that is on one line, if it is a record then.
+fn with_line(alloc: Global, slip: &SheetSlip, text: &[u8]) -> Result<Option<Events>, AllocError>
+    ensures { IfOk result (λ events. events ≡ events_in (mended_text slip.now text.now)) }
 {
-    let mended = mended_text(alloc, unread, text)?;
+    let mended = mended_text(alloc, slip, text)?;
     events_in(alloc, mended.as_slice())
 }
 
 /// The events of a record without a slip of the whole sheet, given its text and the events that were read from it. `None` if the text with the line that
-/// is not read as an event is not a record, or if the slip cannot be on each line.
+/// is mended is not a record, or if the slip cannot be on each line.
 ///
 /// It fails only if memory runs out.
 pub fn without_slip(
@@ -32,7 +31,9 @@ pub fn without_slip(
     ensures { IfOk result (λ right. right ≡ without_slip slip.now text.now written.now) }
 {
     match slip {
-        SheetSlip::Unread(unread) => with_line(alloc, *unread, text),
+        SheetSlip::Unread(_) | SheetSlip::ExtraMark { .. } | SheetSlip::NoPlace { .. } => {
+            with_line(alloc, slip, text)
+        }
         SheetSlip::Running {
             place,
             slip: running,

@@ -10,7 +10,7 @@ pub fn weight_of(slip: &SheetSlip) -> usize
     ensures few { result ≤ 2 }
 {
     match slip {
-        SheetSlip::Unread(_) => 0,
+        SheetSlip::Unread(_) | SheetSlip::ExtraMark { .. } | SheetSlip::NoPlace { .. } => 0,
         SheetSlip::Running { .. } => 2,
     }
 }

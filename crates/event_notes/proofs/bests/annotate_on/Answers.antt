@@ -2,7 +2,7 @@ use Rattle.std.proofs.Common.{option_map, sym, ◌∙◌, subst}
 use Rattle.ref_play.specs.Best.{IsAnnotation}
 use Rattle.gen_sinks.specs.Sinks.{seen_pair}
 use Rattle.lex_check.specs.Pairs.{list_in}
-use Rattle.event_notes.proofs.SameBoards.{same_tile, same_board}
+use Rattle.game_notes.proofs.SameBoards.{same_tile, same_board}
 use Rattle.event_notes.proofs.bests.annotate_on.Goals as goal
 
 pub returns-then-eq : goal.returns-then-eq

@@ -5,8 +5,8 @@ use Rattle.game_turns.specs.Machines.{state_of}
 use Rattle.game_report.specs.BestPlays.{is_judged}
 use Rattle.game_report.proofs.best_plays.push_best.Goals as goal
 
-pub returns-then-not-is_judged : goal.returns-then-not-is_judged
-returns-then-not-is_judged c =
+pub returns-then-not-is_judged-clause-best : goal.returns-then-not-is_judged-clause-best
+returns-then-not-is_judged-clause-best c =
     let silent : is_judged (state_of c.args.machine.now).out c.args.event.now.kind ≡ false = search rules in
     record {
       told = [];
@@ -14,5 +14,5 @@ returns-then-not-is_judged c =
       behind = sym (append-nil c.args.text.now.items);
     }
 
-pub returns-in-Some : goal.returns-in-Some
-returns-in-Some c = search rules
+pub returns-in-Some-clause-best : goal.returns-in-Some-clause-best
+returns-in-Some-clause-best c = search rules

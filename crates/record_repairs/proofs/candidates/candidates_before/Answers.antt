@@ -1,22 +1,34 @@
-use Rattle.std.proofs.Common.{◌≡◌, arith, sym, subst}
-use Rattle.record_repairs.specs.Candidates.{AreBefore}
-use Rattle.record_repairs.proofs.PlaceChanges.{before_first, before_more}
+use Rattle.std.proofs.Common.{◌≡◌, ◌+◌, ◌-◌, ◌++◌, ◌∙◌, ◌<◌, List, [], sym, ap, subst, arith}
+use Rattle.record_repairs.specs.Candidates.{AreBetween, AddsCandidates}
+use Rattle.record_repairs.specs.declared.candidate.Candidate.{Candidate}
+use Rattle.record_repairs.proofs.PlaceChanges.{between_none, between_more}
 use Rattle.record_repairs.proofs.candidates.candidates_before.Goals as goal
 
-pub loop-place-init : goal.loop-place-init
-loop-place-init c =
+pub loop-behind-init : goal.loop-behind-init
+loop-behind-init c =
+    let whole : c.args.end - 0 ≡ c.args.end = omega arith in
     record {
-      so_far = subst (AreBefore c.args.rules.now c.args.list.now c.args.events.now c.args.plays.now c.args.below 0) (sym c.new-found.ensures.items) (before_first c.args.rules.now c.args.list.now c.args.events.now c.args.plays.now c.args.below);
+      so_far = subst (λ n. AreBetween c.args.rules.now c.args.list.now c.args.events.now c.args.plays.now c.args.below n c.args.end c.new-found.result.items) (sym whole)
+          (subst (AreBetween c.args.rules.now c.args.list.now c.args.events.now c.args.plays.now c.args.below c.args.end c.args.end) (sym c.new-found.ensures.items)
+          (between_none c.args.rules.now c.args.list.now c.args.events.now c.args.plays.now c.args.below c.args.end));
     }
 
-pub loop-place-preserved : goal.loop-place-preserved
-loop-place-preserved c =
-    record {
-      so_far = before_more c.args.rules.now c.args.list.now c.args.events.now c.args.plays.now c.args.below c.loop-place.place c.loop-place.found.items c.push_candidates.new.found.items c.loop-place.invariant.so_far
-          c.in_ok-push_candidates.ensures;
-    }
-
-pub returns : goal.returns
-returns c =
-    let done : c.loop-place.place ≡ c.args.end = omega arith in
-    subst (λ n. AreBefore c.args.rules.now c.args.list.now c.args.events.now c.args.plays.now c.args.below n c.loop-place.found.items) done c.loop-place.invariant.so_far
+pub loop-behind-preserved : goal.loop-behind-preserved
+loop-behind-preserved c =
+    let rules = c.args.rules.now in
+    let list = c.args.list.now in
+    let events = c.args.events.now in
+    let plays = c.args.plays.now in
+    let below = c.args.below in
+    let end = c.args.end in
+    let place = end - (c.loop-behind.behind + 1) in
+    let here = c.push_candidates.new.found.items in
+    let inside : place < end = omega arith in
+    let first : place + 1 ≡ end - c.loop-behind.behind = omega arith in
+    let last : end - c.loop-behind.behind - 1 ≡ place = omega arith in
+    let adds : AddsCandidates rules list events plays below place [] here =
+    subst (λ n. AddsCandidates rules list events plays below n [] here) last
+    (subst (λ (xs : List Candidate). AddsCandidates rules list events plays below (end - c.loop-behind.behind - 1) xs here) c.new-here.ensures.items c.in_ok-push_candidates.ensures) in
+    let old : AreBetween rules list events plays below (place + 1) end c.loop-behind.found.items =
+    subst (λ n. AreBetween rules list events plays below n end c.loop-behind.found.items) (sym first) c.loop-behind.invariant.so_far in
+    record { so_far = between_more rules list events plays below place end here c.loop-behind.found.items _ inside adds old c.in_ok-append.ensures.items }

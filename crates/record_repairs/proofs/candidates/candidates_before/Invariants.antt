@@ -1,5 +1,6 @@
-use Rattle.record_repairs.specs.Candidates.{AreBefore}
+use Rattle.std.proofs.Common.{◌-◌}
+use Rattle.record_repairs.specs.Candidates.{AreBetween}
 use Rattle.record_repairs.proofs.candidates.candidates_before.Given as goal
 
-abbrev pub invariant-loop-place : goal.invariant-loop-place
-invariant-loop-place l = record { so_far : AreBefore l.rules l.list l.events l.plays l.below l.place l.found.items }
+abbrev pub invariant-loop-behind : goal.invariant-loop-behind
+invariant-loop-behind l = record { so_far : AreBetween l.rules l.list l.events l.plays l.below (l.end - l.behind) l.end l.found.items }

@@ -1,9 +1,10 @@
-use Rattle.std.proofs.Common.{◌≡◌, ◌<◌, ◌∙◌, inl, inr, List, [], length, sym, subst, arith}
+use Rattle.std.proofs.Common.{◌≡◌, ◌<◌, ◌∙◌, inl, inr, List, [], length, refl, sym, subst, arith}
 use Rattle.std.proofs.lemmas.Iterator.Adapters.{YieldsList-from_vec}
 use Rattle.std.proofs.lemmas.Iterator.Consumers.{YieldsList-turn, YieldsList-end}
 use Rattle.std.proofs.lemmas.List.{length_push}
 use Rattle.record_repairs.specs.declared.listed.Listed.{Listed}
 use Rattle.record_repairs.specs.declared.repair.Repair.{Repair}
+use Rattle.record_repairs.specs.Repairs.{AreFirstRepairs}
 use Rattle.record_repairs.proofs.FirstOnes.{AreSoFar, none_so_far, next_tried, first_ones}
 use Rattle.record_repairs.proofs.finding.first_repairs.Goals as goal
 
@@ -15,6 +16,7 @@ loop-candidate-init c =
           none_so_far c.args.rules.now c.args.list.now c.args.events.now plays c.args.below c.args.most c.args.found.items in
           subst (λ (xs : List Repair). AreSoFar c.args.rules.now c.args.list.now c.args.events.now plays c.args.below c.args.most c.args.found.items 0 xs c.new-2.result.items) (sym c.new.ensures.items)
           (subst (λ (xs : List Listed). AreSoFar c.args.rules.now c.args.list.now c.args.events.now plays c.args.below c.args.most c.args.found.items 0 [] xs) (sym c.new-2.ensures.items) so);
+      from = refl;
     }
 
 pub loop-candidate-preserved : goal.loop-candidate-preserved
@@ -29,25 +31,28 @@ loop-candidate-preserved c =
           let ok = c.loop-candidate.first.told.ok in
           let room : length c.loop-candidate.first.told.items < c.args.most = omega arith in
           let next = next_tried c.args.rules.now c.args.list.now c.args.events.now plays c.args.below c.args.most found (length c.loop-candidate.yielded) c.in-Some.candidate c.loop-candidate.first
-          c.push_candidate.new.self are so t.0 t.1 room c.in_ok-push_candidate.ensures in
+          c.push_candidate.new.self are so t.0 t.1 room c.in_ok-push_candidate.ensures.tried in
           subst (λ n. AreSoFar c.args.rules.now c.args.list.now c.args.events.now plays c.args.below c.args.most found n c.push_candidate.new.self.told.items c.push_candidate.new.self.left.items)
           (sym (length_push c.loop-candidate.yielded c.in-Some.candidate)) next;
+      from = c.in_ok-push_candidate.ensures.from ∙ c.loop-candidate.invariant.from;
     }
 
-pub returns : goal.returns
-returns c =
+pub returns-clause-told : goal.returns-clause-told
+returns-clause-told c =
     let found = c.args.found.items in
     let t = YieldsList-end (YieldsList-from_vec found c.into_iter-candidate-iterator.ensures.into_iter_gives.0 (c.into_iter-candidate-iterator.ensures.into_iter_gives.1 ∙ c.args.found.ok.0)) c.loop-candidate.yielded _
     c.loop-candidate.yielded_by c.next.result c.next.new.self c.in-None.is c.next.ensures.steps in
     let all = t.1 in
     λ plays are.
-    first_ones c.args.rules.now c.args.list.now c.args.events.now plays c.args.below c.args.most found (length c.loop-candidate.yielded) c.loop-candidate.first.told.items
-    c.loop-candidate.first.left.items are (c.loop-candidate.invariant.so_far plays are) (inl (omega (arith, all)))
+    subst (λ n. AreFirstRepairs c.args.rules.now c.args.list.now c.args.events.now plays c.args.below n c.args.most c.loop-candidate.first.told.items c.loop-candidate.first.left.items) (sym c.loop-candidate.invariant.from)
+    (first_ones c.args.rules.now c.args.list.now c.args.events.now plays c.args.below c.args.most found (length c.loop-candidate.yielded) c.loop-candidate.first.told.items
+    c.loop-candidate.first.left.items are (c.loop-candidate.invariant.so_far plays are) (inl (omega (arith, all))))
 
-pub returns-then-len-most : goal.returns-then-len-most
-returns-then-len-most c =
+pub returns-then-len-most-clause-told : goal.returns-then-len-most-clause-told
+returns-then-len-most-clause-told c =
     let ok = c.loop-candidate.first.told.ok in
     let many : length c.loop-candidate.first.told.items ≡ c.args.most = omega arith in
     λ plays are.
-    first_ones c.args.rules.now c.args.list.now c.args.events.now plays c.args.below c.args.most c.args.found.items (length c.loop-candidate.yielded) c.loop-candidate.first.told.items
-    c.loop-candidate.first.left.items are (c.loop-candidate.invariant.so_far plays are) (inr many)
+    subst (λ n. AreFirstRepairs c.args.rules.now c.args.list.now c.args.events.now plays c.args.below n c.args.most c.loop-candidate.first.told.items c.loop-candidate.first.left.items) (sym c.loop-candidate.invariant.from)
+    (first_ones c.args.rules.now c.args.list.now c.args.events.now plays c.args.below c.args.most c.args.found.items (length c.loop-candidate.yielded) c.loop-candidate.first.told.items
+    c.loop-candidate.first.left.items are (c.loop-candidate.invariant.so_far plays are) (inr many))

@@ -1,4 +1,4 @@
-use Rattle.std.proofs.Common.{List, length}
+use Rattle.std.proofs.Common.{◌≡◌, List, length}
 use Rattle.record_changes.specs.declared.slips.Change.{Change}
 use Rattle.record_repairs.specs.Candidates.{AreCandidates}
 use Rattle.record_repairs.proofs.FirstOnes.{AreSoFar}
@@ -7,6 +7,7 @@ use Rattle.record_repairs.proofs.finding.first_repairs.Given as goal
 abbrev pub invariant-loop-candidate : goal.invariant-loop-candidate
 invariant-loop-candidate l =
     record {
-      so_far : (plays : List Change) → AreCandidates l.rules l.list l.events plays l.fn.below l.fn.found.items
+      so_far : (plays : List Change) → AreCandidates l.rules l.list l.events plays l.fn.below l.fn.from l.fn.found.items
           → AreSoFar l.rules l.list l.events plays l.fn.below l.most l.fn.found.items (length l.yielded) l.first.told.items l.first.left.items;
+      from : l.first.from ≡ l.fn.from;
     }

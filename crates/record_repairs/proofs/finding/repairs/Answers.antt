@@ -14,8 +14,8 @@ all_candidates-requires c =
 pub returns-clause-told : goal.returns-clause-told
 returns-clause-told c =
     let written = c.as_slice-2.result.now in
-    let are = subst (λ (es : List Event). AreCandidates c.args.rules.now c.args.list.now es c.args.plays.now c.args.below c.in_ok-found.found.items) (c.as_slice.ensures ∙ sym c.as_slice-2.ensures)
-    c.in_ok-found.ensures in
-    subst (λ (es : List Event). IfOk c.first_repairs.result (λ r. AreFirstRepairs c.args.rules.now c.args.list.now es c.args.plays.now c.args.below c.args.most r.told.items r.left.items))
+    let are = subst (λ (es : List Event). AreCandidates c.args.rules.now c.args.list.now es c.args.plays.now c.args.below c.in_ok-all.all.from c.in_ok-all.all.found.items) (c.as_slice.ensures ∙ sym c.as_slice-2.ensures)
+    c.in_ok-all.ensures.found in
+    subst (λ (es : List Event). IfOk c.first_repairs.result (λ r. AreFirstRepairs c.args.rules.now c.args.list.now es c.args.plays.now c.args.below r.from c.args.most r.told.items r.left.items))
     (c.as_slice-2.ensures ∙ c.in_ok-walk.ensures.same)
-    (told_with c.args.rules.now c.args.list.now written c.args.plays.now c.args.below c.args.most c.in_ok-found.found.items c.first_repairs.result are c.first_repairs.ensures)
+    (told_with c.args.rules.now c.args.list.now written c.args.plays.now c.args.below c.args.most c.in_ok-all.all.found.items c.first_repairs.result are c.first_repairs.ensures.told)

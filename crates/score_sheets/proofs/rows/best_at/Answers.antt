@@ -7,18 +7,18 @@ use Rattle.event_notes.specs.Bests.{IsTurnBest}
 use Rattle.score_sheets.specs.Unders.{cells_under}
 use Rattle.score_sheets.proofs.rows.best_at.Goals as goal
 
-pub returns-in_ok-under-in-Some : goal.returns-in_ok-under-in-Some
-returns-in_ok-under-in-Some c =
+pub returns-in_ok-under-in-Some-clause-best : goal.returns-in_ok-under-in-Some-clause-best
+returns-in_ok-under-in-Some-clause-best c =
     λ written right is within.
     let own = c.args.rules.now in
     let list = list_in c.args.pair.now in
     let before = c.in-Some.ensures own list written right is within in
-    let best = c.best_of_turn-best.result in
+    let best = c.turn_best-best.result in
     let same : to_z w32 (of_z w32 c.args.gave) ≡ c.args.gave = to_z-of_z {w = w32} (search (rules, ints)) in
-    let found = subst (λ (gave : ℤ). IsTurnBest own list (state_of c.in-Some.machine.now) c.args.event.now gave best) same c.best_of_turn-best.ensures in (
+    let found = subst (λ (gave : ℤ). IsTurnBest own list (state_of c.in-Some.machine.now) c.args.event.now gave best) same c.turn_best-best.ensures.best in (
       (before.0, subst (λ (s : State). IsTurnBest own list s c.args.event.now c.args.gave best) before.1 found),
       c.in_ok-under-in-Some.ensures ∙ ap (λ board. cells_under board best) c.board.ensures ∙ ap (λ (s : State). cells_under s.board best) before.1,
     )
 
-pub returns-in-None : goal.returns-in-None
-returns-in-None c = λ written right is within. (c.in-None.ensures c.args.rules.now (list_in c.args.pair.now) written right is within, c.new.ensures.items)
+pub returns-in-None-clause-best : goal.returns-in-None-clause-best
+returns-in-None-clause-best c = λ written right is within. (c.in-None.ensures c.args.rules.now (list_in c.args.pair.now) written right is within, c.new.ensures.items)

@@ -14,8 +14,8 @@ use Rattle.game_rows.proofs.Steps.{walk_renumbered}
 use Rattle.score_sheets.proofs.SameTurns.{same_best}
 use Rattle.score_sheets.proofs.rows.row_at.Goals as goal
 
-pub returns : goal.returns
-returns c =
+pub returns-clause-row : goal.returns-clause-row
+returns-clause-row c =
     λ right is.
     let own_rules = c.args.rules.now in
     let list = list_in c.args.pair.now in
@@ -44,8 +44,8 @@ returns c =
       best =
           same_best own_rules list right place own numbers.event (given_by taken numbers.event.score) c.in_ok-there.there.best
           ((walk_renumbered own_rules list events right c.args.walk.now is).each place own numbers.event stood numbers.stands)
-          (subst (λ (gave : ℤ). IsBestAt own_rules list right place own gave c.in_ok-there.there.best) gave (c.in_ok-there.ensures events right is within).0);
-      under = (c.in_ok-there.ensures events right is within).1;
+          (subst (λ (gave : ℤ). IsBestAt own_rules list right place own gave c.in_ok-there.there.best) gave (c.in_ok-there.ensures.best events right is within).0);
+      under = (c.in_ok-there.ensures.best events right is within).1;
       noted = noted own_rules events right is within;
       taken_back = c.is_taken_back-taken_back.ensures;
     }

@@ -10,8 +10,8 @@ abbrev pub invariant-loop-cut : goal.invariant-loop-cut
 invariant-loop-cut l =
     record {
       counted : l.number + length (parts_behind l.cut.after) ≡ length (slice_split is_feed (without_mark l.text));
-      so_far : l.out.items ++ join_with_byte 10 (mended_lines l.unread l.number (l.cut.line.now ∷ parts_behind l.cut.after))
-          ≡ mark_of l.text ++ join_with_byte 10 (mended_lines l.unread 1 (slice_split is_feed (without_mark l.text)));
+      so_far : l.out.items ++ join_with_byte 10 (mended_lines l.slip l.number (l.cut.line.now ∷ parts_behind l.cut.after))
+          ≡ mark_of l.text ++ join_with_byte 10 (mended_lines l.slip 1 (slice_split is_feed (without_mark l.text)));
     }
 
 abbrev pub decreases-loop-cut : goal.decreases-loop-cut

@@ -1,7 +1,7 @@
 use Rattle.std.proofs.Common.{rules, sym, ◌∙◌}
 use Rattle.std.proofs.lemmas.Bool.{eqb-true}
-use Rattle.event_notes.proofs.SameBoards.{same_tile, same_board}
-use Rattle.known_bests.proofs.TableLaws.{same_numbers, is_found}
+use Rattle.game_notes.proofs.SameBoards.{same_tile, same_board, same_numbers}
+use Rattle.known_bests.proofs.TableLaws.{is_found}
 use Rattle.known_bests.proofs.known.KnownBests.find.Goals as goal
 
 pub returns-then-eq-2 : goal.returns-then-eq-2

@@ -4,13 +4,13 @@ use Rattle.record_repairs.specs.Settling.{IsOutcome}
 use Rattle.record_repairs.specs.declared.repair.Repair.{Repair}
 use Rattle.record_repairs.proofs.found.Found.push_right.Goals as goal
 
-pub returns-then-is_among : goal.returns-then-is_among
-returns-then-is_among c =
+pub returns-then-is_among-clause-tried : goal.returns-then-is_among-clause-tried
+returns-then-is_among-clause-tried c =
     let told = subst (λ (ts : List Repair). IsAmong ts c.as_slice-2.result.now) c.as_slice.ensures.value (c.is_among.ensures.0 c.if-is_among.true) in
     inr (inr (record { same_told = refl; same_left = refl; why = inl (subst (IsAmong c.args.self.now.told.items) c.as_slice-2.ensures told) }))
 
-pub returns-in_ok-push-in-Game : goal.returns-in_ok-push-in-Game
-returns-in_ok-push-in-Game c =
+pub returns-in_ok-push-in-Game-clause-tried : goal.returns-in_ok-push-in-Game-clause-tried
+returns-in_ok-push-in-Game-clause-tried c =
     inl
     (record {
       repair = record { listed = c.args.listed; right = c.args.right; remains = c.in_ok-remains-in-Game.remains };
@@ -27,6 +27,6 @@ returns-in_ok-push-in-Game c =
           cc;
     })
 
-pub returns-in-NoGame : goal.returns-in-NoGame
-returns-in-NoGame c =
+pub returns-in-NoGame-clause-tried : goal.returns-in-NoGame-clause-tried
+returns-in-NoGame-clause-tried c =
     inr (inr (record { same_told = refl; same_left = refl; why = inr (subst (IsOutcome c.args.rules.now c.args.list.now c.args.right) c.in-NoGame.is c.in_ok-settled.ensures) }))

@@ -1,6 +1,7 @@
-use Rattle.std.proofs.Common.{ℕ, ◌+◌, ap, arith}
-use Rattle.repair_answers.proofs.Tries.{none_before, many_more, all_tried}
-use Rattle.repair_answers.proofs.lists.many_tried.Goals as goal
+use Rattle.std.proofs.Common.{◌≡◌, ℕ, ◌+◌, ◌∙◌, ap, arith}
+use Rattle.repair_answers.specs.Tried.{many_before}
+use Rattle.repair_answers.proofs.Tries.{none_before, many_more}
+use Rattle.repair_answers.proofs.lists.many_before.Goals as goal
 
 pub loop-place-init : goal.loop-place-init
 loop-place-init c = record { so_far = none_before c.args.rules.now c.args.events.now; few = omega arith }
@@ -14,6 +15,7 @@ loop-place-preserved c =
       few = omega arith;
     }
 
-pub returns : goal.returns
-returns c =
-    ap (λ (n : ℕ). n + c.args.plays) (all_tried c.args.rules.now c.args.events.now c.args.walk.now c.loop-place.place c.loop-place.many c.loop-place.invariant.so_far (omega arith))
+pub returns-clause-many : goal.returns-clause-many
+returns-clause-many c =
+    let last : c.loop-place.place ≡ c.args.end = omega arith in
+    c.loop-place.invariant.so_far ∙ ap (many_before c.args.rules.now c.args.events.now) last

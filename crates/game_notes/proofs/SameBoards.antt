@@ -1,5 +1,5 @@
--- Boards whose squares are the same.
-use Rattle.std.proofs.Common.{◌≡◌, Bool, true, List, [], ◌∷◌, Option, Some, None, refl, ap, ◌∙◌, subst, IsTrue}
+-- Boards and racks that compare equal.
+use Rattle.std.proofs.Common.{◌≡◌, ℕ, Bool, true, List, [], ◌∷◌, Option, Some, None, refl, ap, ◌∙◌, subst, IsTrue}
 use Rattle.std.specs.Option.{option_eq}
 use Rattle.std.proofs.lemmas.Bool.{and_parts}
 use Rattle.std.proofs.lemmas.Bool.{eqb-true}
@@ -52,3 +52,12 @@ same_board same tells (x ∷ xs) [] is = cc
 same_board same tells (x ∷ xs) (y ∷ ys) is =
     let parts = and_parts (option_eq same x y) (pointwise (option_eq same) xs ys) is in
     ap (λ z. z ∷ xs) (same_cell same tells x y parts.0) ∙ ap (λ zs. y ∷ zs) (same_board same tells xs ys parts.1)
+
+-- racks whose numbers are the same
+pub same_numbers : (same : ℕ → ℕ → Bool) → ((a b : ℕ) → same a b ≡ true → a ≡ b) → (xs ys : List ℕ) → pointwise same xs ys ≡ true → xs ≡ ys
+same_numbers same tells [] [] is = refl
+same_numbers same tells [] (y ∷ ys) is = cc
+same_numbers same tells (x ∷ xs) [] is = cc
+same_numbers same tells (x ∷ xs) (y ∷ ys) is =
+    let parts = and_parts (same x y) (pointwise same xs ys) is in
+    ap (λ z. z ∷ xs) (tells x y parts.0) ∙ ap (λ zs. y ∷ zs) (same_numbers same tells xs ys parts.1)

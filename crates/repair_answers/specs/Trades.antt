@@ -1,0 +1,37 @@
+-- Which repairs are told of a record that was perhaps played with another word list.
+use Rattle.std.specs.Prelude.{◌≡◌, ℕ, ◌<◌, ◌^◌, ◌&&◌, not, nat_lt, Bool, true, false, List, length, filter, Option, Some, None}
+use Rattle.ref_tiles.specs.declared.rulebook.Rules.{Rules}
+use Rattle.gcg_read.specs.declared.events.Event.{Event}
+use Rattle.record_changes.specs.declared.slips.Change.{Change}
+use Rattle.record_changes.specs.declared.slips.Slip.{Slip}
+use Rattle.record_changes.specs.declared.slips.Slip.TheVariants as slip
+use Rattle.record_changes.specs.declared.slips.SpellingSlip.TheVariants as spelling
+use Rattle.record_repairs.specs.Repairs.{AreFirstRepairs}
+use Rattle.record_repairs.specs.declared.listed.Listed.{Listed}
+use Rattle.record_repairs.specs.declared.repair.Repair.{Repair}
+use Rattle.repair_answers.specs.declared.numbers_alone.NumbersAlone.{NumbersAlone}
+
+-- two letters of a word are in each other's place
+abbrev pub is_trade : Slip → Bool
+is_trade (slip.Spelling (spelling.Twisted place)) = true
+is_trade other = false
+
+-- a repair leaves as many numbers wrong as there are if only the numbers are
+abbrev pub rights_none : NumbersAlone → Repair → Bool
+rights_none alone repair = not (nat_lt (length repair.remains.wrong.items) (length alone.remains.wrong.items))
+
+-- More than three words are not in the list if only the numbers are wrong, and all that a repair does is to avoid one by letters that trade places.
+abbrev pub avoids_word : NumbersAlone → Repair → Bool
+avoids_word alone repair = nat_lt 3 (length alone.remains.unlisted.items) && is_trade repair.listed.change.slip && rights_none alone repair
+
+-- such a repair is not told
+abbrev pub is_told : Option NumbersAlone → Repair → Bool
+is_told None repair = true
+is_told (Some alone) repair = not (avoids_word alone repair)
+
+-- The first repairs of a record, no more than memory holds, but for those.
+pub record AreTold (rules : Rules) (list : List (List ℕ)) (written : List Event) (alone : Option NumbersAlone) (plays : List Change) (below : Option ℕ) (from most : ℕ) (told : List Repair) (left : List Listed) : Type 0 where
+  pub found : List Repair
+  pub first : AreFirstRepairs rules list written plays below from most found left
+  pub few : length found < 2 ^ 63
+  pub kept : told ≡ filter (is_told alone) found

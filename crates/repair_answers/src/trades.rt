@@ -1,0 +1,53 @@
+//! Repairs that only avoid a word that is not in the list, in a record that was perhaps played with another one.
+ghost use Rattle.std.specs.Prelude.{◌≡◌, filter};
+ghost use Rattle.repair_answers.specs.Trades.{is_trade, rights_none, avoids_word, is_told};
+
+use crate::numbers_alone::NumbersAlone;
+use record_changes::{Slip, SpellingSlip};
+use record_repairs::Repair;
+
+/// How many words that are not in the list may come from slips: if there are more, the game was perhaps played with another list.
+pub const WORDS_OF_SLIPS: usize = 3;
+
+/// Whether two letters of a word are in each other's place.
+fn is_trade(slip: &Slip) -> bool
+    ensures { result ≡ is_trade slip.now }
+{
+    match slip {
+        Slip::Spelling(SpellingSlip::Twisted { .. }) => true,
+        _ => false,
+    }
+}
+
+/// Whether a repair leaves as many numbers wrong as there are if only the numbers are.
+fn rights_none(alone: &NumbersAlone, repair: &Repair) -> bool
+    ensures { result ≡ rights_none alone.now repair.now }
+{
+    repair.remains.wrong.len() >= alone.remains.wrong.len()
+}
+
+/// Whether more words are not in the list than come from slips, and all that a repair does is to avoid one by letters that trade places.
+fn avoids_word(alone: &NumbersAlone, repair: &Repair) -> bool
+    ensures { result ≡ avoids_word alone.now repair.now }
+{
+    alone.remains.unlisted.len() > WORDS_OF_SLIPS
+        && is_trade(&repair.listed.change.slip)
+        && rights_none(alone, repair)
+}
+
+/// Whether a repair is told: it is not one that only avoids a word.
+fn is_told(alone: &Option<NumbersAlone>, repair: &Repair) -> bool
+    ensures { result ≡ is_told alone.now repair.now }
+{
+    match alone {
+        Some(alone) => !avoids_word(alone, repair),
+        None => true,
+    }
+}
+
+/// Keeps only the repairs that are told.
+pub(crate) fn keep_told(alone: &Option<NumbersAlone>, repairs: &mut Vec<Repair>)
+    ensures { repairs.new.items ≡ filter (is_told alone.now) repairs.old.items }
+{
+    repairs.retain(|repair| is_told(alone, repair));
+}
