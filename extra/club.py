@@ -3,7 +3,7 @@
     python3 extra/club.py 8080 words.txt words.gad
 
 Then http://127.0.0.1:8080/ takes a record, as a file or as pasted text, and shows the page of the game, its audit, and the corrected sheet to be kept.
-Nothing is stored. This is an example of what can be made of the client beside it (`referee.py`); it is no server for the open network, has no
+Nothing is stored. This is an example of what can be made of the client in `python/`; it is no server for the open network, has no
 accounts, and answers one game at a time.
 """
 import base64
@@ -14,7 +14,10 @@ from email.parser import BytesParser
 from html import escape
 from http import HTTPStatus
 from http.server import BaseHTTPRequestHandler, ThreadingHTTPServer
+from pathlib import Path
 from urllib.parse import urlsplit
+
+sys.path += [str(folder / "python") for folder in Path(__file__).resolve().parents[:2]]
 
 from referee import BadInput, Referee, RefereeError, text_of
 

@@ -1,4 +1,4 @@
-"""Tries the client in `extra/` and the page for a club: client PROGRAM CASES SEED
+"""Tries the client in `python/` and the page for a club: client PROGRAM CASES SEED
 
 The client has to give the answers of the commands for as many games as CASES says, to start a program again that is killed or does not answer, and to answer
 1,000 requests from 8 threads, each with its own answer. The page has to take files and pasted text, to refuse what is too long and what comes from
@@ -17,7 +17,7 @@ from concurrent.futures import ThreadPoolExecutor
 from pathlib import Path
 
 ROOT = Path(__file__).resolve().parents[2]
-sys.path.append(str(ROOT / "extra"))
+sys.path += [str(ROOT / "python"), str(ROOT / "extra")]
 
 from club import Club
 from http.server import ThreadingHTTPServer

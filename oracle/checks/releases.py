@@ -8,7 +8,7 @@ import tempfile
 from pathlib import Path
 
 ROOT = Path(__file__).resolve().parents[2]
-WANTED = {"referee", "referee.1", "referee.bash", "_referee", "referee.fish", "referee.py", "club.py", "README.md", "CHANGELOG.md", "SHA256SUMS"}
+WANTED = {"referee", "referee.1", "referee.bash", "_referee", "referee.fish", "python/referee/__init__.py", "python/pyproject.toml", "club.py", "README.md", "CHANGELOG.md", "SHA256SUMS"}
 
 
 def packed(program, folder):
@@ -43,6 +43,8 @@ def faults_of(program, folder):
         yield "the program"
     if next(line for line in files[f"{name}/CHANGELOG.md"].decode().splitlines() if line.startswith("## ")) != f"## {version}":
         yield f"CHANGELOG.md does not begin with {version}"
+    if f'version = "{version}"' not in files[f"{name}/python/pyproject.toml"].decode().splitlines():
+        yield f"python/pyproject.toml does not have the version {version}"
     if subprocess.run([ROOT / "extra" / "release.sh"], capture_output=True, check=False).returncode != 64:
         yield "a release without a folder"
 

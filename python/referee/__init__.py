@@ -1,4 +1,4 @@
-"""A client of `referee serve`, in one file of Python's standard library: verdicts from a program that has read its word list once.
+"""A client of `referee serve`: verdicts from a program that has read its word list once.
 
     from referee import Referee
 
@@ -10,6 +10,8 @@ A game is the text of a record, or its bytes. An answer is a dictionary whose ke
 `status`. Where the status is 3, 4 or 64, there is an exception instead: `BadInput`, `Broken` or `BadRequest`. Several threads may ask one client;
 they are answered one after the other. For many processors start many clients.
 """
+from __future__ import annotations
+
 import itertools
 import json
 import os
@@ -18,14 +20,34 @@ import selectors
 import subprocess
 import threading
 import time
+from types import TracebackType
+from typing import Any, Optional, Union
+
+__all__ = ["Answer", "BadInput", "BadRequest", "Broken", "Referee", "RefereeError", "TimedOut", "text_of"]
+
+Game = Union[str, bytes]
+Path = Union[str, "os.PathLike[str]"]
+
+
+class Answer(dict[str, Any]):
+    """The object of an answer. Its keys are attributes too."""
+
+    status: int = 0
+    text: Optional[str] = None
+
+    def __getattr__(self, key: str) -> Any:
+        try:
+            return self[key]
+        except KeyError:
+            raise AttributeError(key) from None
 
 
 class RefereeError(Exception):
     """A request without an answer of the usual kind. `answer` is the object that says why, if there is one."""
 
-    status = None
+    status: Optional[int] = None
 
-    def __init__(self, text, answer=None):
+    def __init__(self, text: object, answer: Optional[Answer] = None) -> None:
         super().__init__(text)
         self.answer = answer
 
@@ -52,23 +74,10 @@ class BadRequest(RefereeError):
     status = 64
 
 
-FAILURES = {failure.status: failure for failure in (BadInput, Broken, BadRequest)}
+FAILURES: dict[int, type[RefereeError]] = {3: BadInput, 4: Broken, 64: BadRequest}
 
 
-class Answer(dict):
-    """The object of an answer. Its keys are attributes too."""
-
-    status = None
-    text = None
-
-    def __getattr__(self, key):
-        try:
-            return self[key]
-        except KeyError:
-            raise AttributeError(key) from None
-
-
-def text_of(game):
+def text_of(game: Game) -> str:
     """The text of a record that is given as bytes. Where it states ISO-8859-1, it states UTF-8 afterwards, as the program is given it."""
     if isinstance(game, str):
         return game
@@ -84,65 +93,77 @@ def text_of(game):
 class Referee:
     """A program that answers requests. It is started at once, and ended by `close` or at the end of a `with`."""
 
-    def __init__(self, words, lexicon, *, rules=None, first_field=False, skip_others=False, program="referee", timeout=60.0):
+    def __init__(
+        self,
+        words: Path,
+        lexicon: Path,
+        *,
+        rules: Optional[Path] = None,
+        first_field: bool = False,
+        skip_others: bool = False,
+        program: Path = "referee",
+        timeout: float = 60.0,
+    ) -> None:
         options = [option for option, wanted in (("--first-field", first_field), ("--skip-others", skip_others)) if wanted]
         by = [] if rules is None else ["--rules", os.fspath(rules)]
         self._command = [os.fspath(program), "serve", *options, *by, os.fspath(words), os.fspath(lexicon)]
-        self._lock, self._numbers, self._process, self._is_open = threading.Lock(), itertools.count(1), None, True
+        self._lock, self._numbers, self._is_open = threading.Lock(), itertools.count(1), True
+        self._process: Optional[subprocess.Popen[bytes]] = None
         self.timeout = timeout
-        self.words = self.version = None
+        self.words: int = 0
+        self.version: str = ""
         self._start()
 
-    def __enter__(self):
+    def __enter__(self) -> Referee:
         return self
 
-    def __exit__(self, *_):
+    def __exit__(self, kind: Optional[type[BaseException]], error: Optional[BaseException], trace: Optional[TracebackType]) -> None:
         self.close()
 
-    def close(self):
+    def close(self) -> None:
         """Ends the program."""
         with self._lock:
             self._is_open = False
             self._end()
 
-    def judge(self, game, *, settle=False, best=True):
+    def judge(self, game: Game, *, settle: bool = False, best: bool = True) -> Answer:
         """Judges a game, with a search for a deal where `settle` says so. Without `best` no best plays are looked for."""
         return self.ask("judge", game=text_of(game), settle=settle, best=best)
 
-    def explain(self, game, line=None, *, likely=True):
+    def explain(self, game: Game, line: Optional[int] = None, *, likely: bool = True) -> Answer:
         """Explains the verdict on a game, or one of its lines. Without `likely` no likely repair of an illegal record is looked for."""
         return self.ask("explain", game=text_of(game), line=line, likely=likely)
 
-    def audit(self, game, *, corrected=False):
+    def audit(self, game: Game, *, corrected: bool = False) -> Answer:
         """Audits a sheet. Where `corrected` is asked for and the corrected record stands, that is the `text` of the answer."""
         return self.ask("audit", game=text_of(game), corrected=corrected)
 
-    def board(self, game, line=None):
+    def board(self, game: Game, line: Optional[int] = None) -> Answer:
         """The board after the last event of a record, or before one of its lines."""
         return self.ask("board", game=text_of(game), line=line)
 
-    def top(self, game, rack=None, *, line=None, number=None):
+    def top(self, game: Game, rack: Optional[str] = None, *, line: Optional[int] = None, number: Optional[int] = None) -> Answer:
         """The best plays by a rack, or by the one that the line shows: ten, unless a number is said."""
         return self.ask("top", game=text_of(game), rack=rack, line=line, number=number)
 
-    def word(self, *words):
+    def word(self, *words: str) -> Answer:
         """Whether words are acceptable."""
         return self.ask("word", words=words)
 
-    def tidy(self, game):
+    def tidy(self, game: Game) -> str:
         """The normal form of a record."""
-        return self.ask("tidy", game=text_of(game)).text
+        return self.ask("tidy", game=text_of(game)).text or ""
 
-    def page(self, game, *, likely=True):
+    def page(self, game: Game, *, likely: bool = True) -> str:
         """The page of a game, as HTML. Without `likely` it does not show the likely repair of an illegal record."""
-        return self.ask("page", game=text_of(game), likely=likely).text
+        return self.ask("page", game=text_of(game), likely=likely).text or ""
 
-    def ask(self, do, **members):
-        """The answer to a request with these members; one that is None is left out."""
+    def ask(self, do: str, *, timeout: Optional[float] = None, **members: Any) -> Answer:
+        """The answer to a request with these members; one that is None is left out. With `timeout` that many seconds count for this request."""
         with self._lock:
             number = next(self._numbers)
             asked = {"id": number, "do": do} | {key: value for key, value in members.items() if value is not None}
-            told = self._answered(json.dumps(asked).encode() + b"\n")
+            told = self._answered(json.dumps(asked).encode() + b"\n", self.timeout if timeout is None else timeout)
             if told.get("id") not in (number, None):
                 self._end()
                 raise Broken(f"the answer to {told.get('id')} in place of that to {number}")
@@ -152,32 +173,32 @@ class Referee:
             raise FAILURES[answer.status](told.get("error") or answer.get("verdict"), answer)
         return answer
 
-    def _answered(self, line):
+    def _answered(self, line: bytes, timeout: float) -> dict[str, Any]:
         """The answer to a line. A program that has ended is started again and asked again, once: no answer depends on an earlier one."""
         if not self._is_open:
             raise Broken("the client is closed")
-        for is_last in (False, True):
-            if self._process is None:
-                self._start()
+        for _ in range(2):
+            process = self._process or self._start()
             try:
-                return json.loads(self._exchange(line))
+                return _object(_exchange(process, line, timeout))
             except TimedOut:
                 self._end()
                 self._start()
                 raise
             except (OSError, EOFError, ValueError) as error:
                 self._end()
-                if is_last:
-                    raise Broken(f"the program ended: {error}") from error
-        return None
+                failure = error
+        raise Broken(f"the program ended: {failure}") from failure
 
-    def _start(self):
+    def _start(self) -> subprocess.Popen[bytes]:
         """Starts the program, and waits until it is ready."""
-        self._process = subprocess.Popen(self._command, stdin=subprocess.PIPE, stdout=subprocess.PIPE, bufsize=0)
-        os.set_blocking(self._process.stdin.fileno(), False)
-        os.set_blocking(self._process.stdout.fileno(), False)
+        process = subprocess.Popen(self._command, stdin=subprocess.PIPE, stdout=subprocess.PIPE, bufsize=0)
+        self._process = process
+        for pipe in (process.stdin, process.stdout):
+            assert pipe is not None
+            os.set_blocking(pipe.fileno(), False)
         try:
-            told = json.loads(self._exchange(b""))
+            told = _object(_exchange(process, b"", self.timeout))
         except (OSError, EOFError, ValueError) as error:
             self._end()
             raise error if isinstance(error, TimedOut) else Broken(f"the program did not start: {error}") from error
@@ -186,12 +207,14 @@ class Referee:
             failure = Broken if told.get("verdict") in ("cannot open", "read failed", "no memory") else BadInput
             raise failure(told.get("verdict"), Answer(told))
         self.words, self.version = told["words"], told["version"]
+        return process
 
-    def _end(self):
+    def _end(self) -> None:
         """Ends the program, as hard as that takes."""
         process, self._process = self._process, None
         if process is None:
             return
+        assert process.stdin is not None and process.stdout is not None
         process.stdin.close()
         try:
             process.wait(0.2 if self._is_open else 5)
@@ -200,25 +223,35 @@ class Referee:
             process.wait()
         process.stdout.close()
 
-    def _exchange(self, line):
-        """Writes a line, and reads one."""
-        process, until, left, got = self._process, time.monotonic() + self.timeout, memoryview(line), bytearray()
-        with selectors.DefaultSelector() as selector:
-            selector.register(process.stdout, selectors.EVENT_READ)
-            if left:
-                selector.register(process.stdin, selectors.EVENT_WRITE)
-            while not got.endswith(b"\n"):
-                ready = selector.select(max(0.0, until - time.monotonic()))
-                if not ready:
-                    raise TimedOut(f"no answer in {self.timeout} s")
-                for key, _ in ready:
-                    if key.fileobj is process.stdout:
-                        piece = os.read(key.fd, 1 << 16)
-                        if not piece:
-                            raise EOFError(f"end of its output, status {process.poll()}")
-                        got += piece
-                    else:
-                        left = left[os.write(key.fd, left[: 1 << 16]) :]
-                        if not left:
-                            selector.unregister(process.stdin)
-        return bytes(got)
+
+def _object(line: bytes) -> dict[str, Any]:
+    """The JSON object of a line."""
+    told = json.loads(line)
+    if not isinstance(told, dict):
+        raise ValueError("the line is not an object")
+    return told
+
+
+def _exchange(process: subprocess.Popen[bytes], line: bytes, timeout: float) -> bytes:
+    """Writes a line to a program, and reads one."""
+    until, left, got = time.monotonic() + timeout, memoryview(line), bytearray()
+    assert process.stdin is not None and process.stdout is not None
+    with selectors.DefaultSelector() as selector:
+        selector.register(process.stdout, selectors.EVENT_READ)
+        if left:
+            selector.register(process.stdin, selectors.EVENT_WRITE)
+        while not got.endswith(b"\n"):
+            ready = selector.select(max(0.0, until - time.monotonic()))
+            if not ready:
+                raise TimedOut(f"no answer in {timeout} s")
+            for key, _ in ready:
+                if key.fileobj is process.stdout:
+                    piece = os.read(key.fd, 1 << 16)
+                    if not piece:
+                        raise EOFError(f"end of its output, status {process.poll()}")
+                    got += piece
+                else:
+                    left = left[os.write(key.fd, left[: 1 << 16]) :]
+                    if not left:
+                        selector.unregister(process.stdin)
+    return bytes(got)
