@@ -1,0 +1,307 @@
+"""All that the page knows of a game: the requests to `referee serve`, and the few commands that answer what it is not asked yet.
+
+A worker has one `serve` for what takes milliseconds, and starts another one when something is first asked that may take longer, so that nobody waits for
+the long request of somebody else. A long request has a limit of time, and ends in `TooLong` when that is over.
+"""
+from __future__ import annotations
+
+import json
+import os
+import subprocess
+import tempfile
+import threading
+from dataclasses import dataclass
+from html.parser import HTMLParser
+from pathlib import Path
+from typing import Any, Callable, Optional, TypeVar
+
+from referee import Answer, BadInput, Broken, Referee, TimedOut
+
+from . import drafts
+from .settings import Settings
+
+QUICK_SECONDS = 10.0
+ASIDE = "referee: "
+T = TypeVar("T")
+
+
+class TooLong(Exception):
+    """There was no answer within the limit."""
+
+
+@dataclass(frozen=True)
+class Filled:
+    """A record that was made of a draft, and how many numbers were put in."""
+
+    text: str
+    number: int
+
+
+@dataclass(frozen=True)
+class Next:
+    """What the next line of a record is about."""
+
+    turn: Optional[str]
+    is_over: bool
+    facts: list[dict[str, Any]]
+
+
+@dataclass(frozen=True)
+class Compared:
+    """What differs between two sheets, line by line, and the merged record, if it could be written."""
+
+    status: int
+    rows: list[str]
+    merged: Optional[str]
+
+
+class Judge:
+    """The program, as this page asks it."""
+
+    def __init__(self, settings: Settings) -> None:
+        self.settings = settings
+        self._starting, self._slow_turn = threading.Lock(), threading.Lock()
+        self._quick: Optional[Referee] = None
+        self._slow: Optional[Referee] = None
+
+    # The programs.
+
+    def _started(self) -> Referee:
+        settings = self.settings
+        return Referee(
+            settings.words,
+            settings.lexicon,
+            rules=settings.rules,
+            first_field=settings.first_field,
+            skip_others=settings.skip_others,
+            program=settings.program,
+        )
+
+    @property
+    def quick(self) -> Referee:
+        """The program that answers at once."""
+        with self._starting:
+            if self._quick is None:
+                self._quick = self._started()
+            return self._quick
+
+    @property
+    def words(self) -> int:
+        """How many words the list has."""
+        return self.quick.words
+
+    def close(self) -> None:
+        """Ends the programs."""
+        for program in (self._quick, self._slow):
+            if program is not None:
+                program.close()
+        self._quick = self._slow = None
+
+    def _ask(self, do: str, **members: Any) -> Answer:
+        try:
+            return self.quick.ask(do, timeout=QUICK_SECONDS, **members)
+        except TimedOut as error:
+            raise TooLong from error
+
+    def _ask_long(self, do: str, **members: Any) -> Answer:
+        """The answer to a request that may take long. Whoever comes while another one is answered waits for the limit too, and no longer."""
+        if not self._slow_turn.acquire(timeout=self.settings.seconds):
+            raise TooLong
+        try:
+            if self._slow is None:
+                self._slow = self._started()
+            return self._slow.ask(do, timeout=self.settings.seconds, **members)
+        except TimedOut as error:
+            raise TooLong from error
+        finally:
+            self._slow_turn.release()
+
+    # What is said of a record.
+
+    def verdict(self, game: str) -> Answer:
+        """The verdict, with the events as they are written; of a text that is not a record, why not."""
+        try:
+            return self._ask("judge", game=game, best=False)
+        except BadInput as bad:
+            return _why(bad)
+
+    def line(self, game: str, line: Optional[int] = None) -> Answer:
+        """What there is to say of a line, or of the record."""
+        try:
+            return self._ask("explain", game=game, line=line, likely=False)
+        except BadInput as bad:
+            return _why(bad)
+
+    def reasons(self, game: str) -> list[str]:
+        """What explains the verdict, in sentences. A page of the game has them too."""
+        try:
+            page = self._ask("page", game=game, likely=False).text
+        except BadInput:
+            return self.remarks(game)
+        return _texts_of(page or "", "why")
+
+    def remarks(self, game: str) -> list[str]:
+        """What the program says aside of a text: what its line lacks, what kind of file it seems to be, and which lines are not read."""
+        ran = self._run(["tidy", "-"], game)
+        told = [line[len(ASIDE) :] for line in ran.stderr.splitlines() if line.startswith(ASIDE)]
+        return [line.replace("standard input line", "Line", 1) if "standard input line" in line else line.replace("standard input", "The text", 1) for line in told]
+
+    def board(self, game: str, line: Optional[int] = None) -> Optional[Answer]:
+        """The board after the last event, or before a line; nothing if the text is not a record."""
+        try:
+            return self._ask("board", game=game, line=line)
+        except BadInput:
+            return None
+
+    def audit(self, game: str) -> Answer:
+        """The wrong numbers of a sheet, with the corrected sheet as its text, if that stands. A bonus that would explain them may take long to find."""
+        try:
+            return self._ask_long("audit", game=game, corrected=True)
+        except BadInput as bad:
+            return _why(bad)
+
+    def tidy(self, game: str) -> str:
+        """The normal form of a record."""
+        return self._ask("tidy", game=game).text or ""
+
+    def filled(self, draft: str) -> Filled:
+        """A draft with the numbers that are missing. The scores are those that the audit gives; a total is the total before it and the score."""
+        holes = {number: fields.missing for number, line in enumerate(drafts.lines_of(draft), 1) if (fields := drafts.fields_of(line)) and fields.missing}
+        if not holes:
+            return Filled(draft, 0)
+        zeros = _with_numbers(draft, {number: 0 for number, many in holes.items() if many == 2})
+        try:
+            told = self._ask("audit", game=zeros)
+        except BadInput:
+            return Filled(zeros, sum(holes.values()))
+        scores = {wrong["line"]: wrong["right"] for wrong in told["wrong"] if wrong["wrong"] == "score"}
+        right = {number: scores.get(number, 0) for number, many in holes.items() if many == 2}
+        return Filled(_with_numbers(draft, right), sum(holes.values()))
+
+    def next(self, game: str) -> Next:
+        """Whose turn it is. A pass of a player tells it: it stands, but for its total, or the program says that the game is over."""
+        faults = {}
+        for player in drafts.players_of(game):
+            told = self.verdict(drafts.with_line(game, f">{player.nick}: - +0 0"))
+            faults[player.nick] = None if told["verdict"] in ("legal", "unsettled") else (told.get("fault") or {}).get("name")
+        may = [nick for nick, fault in faults.items() if fault in (None, "WrongTotal")]
+        facts = self.line(game).get("facts") or []
+        return Next(may[0] if len(may) == 1 else None, all(fault == "GameOver" for fault in faults.values()), facts)
+
+    def word(self, words: list[str]) -> Answer:
+        """Whether words are acceptable."""
+        try:
+            return self._ask("word", words=words)
+        except BadInput as bad:
+            return _why(bad)
+
+    def top(self, game: str, rack: Optional[str], line: Optional[int]) -> Answer:
+        """The best plays."""
+        try:
+            return self._ask_long("top", game=game, rack=rack, line=line)
+        except BadInput as bad:
+            return _why(bad)
+
+    def page(self, game: str) -> str:
+        """The page of a game, with the likely repair, if that is found in time."""
+        for likely in (True, False):
+            try:
+                return self._ask_long("page", game=game, likely=likely).text or ""
+            except TooLong:
+                if not likely:
+                    raise
+        return ""
+
+    # What only the commands answer.
+
+    def repairs(self, game: str) -> Answer:
+        """The repairs of a sheet, the likeliest first."""
+        return Answer(json.loads(self._run(["repair", "--json", *self._options, *self._pair, "-"], game).stdout))
+
+    def annotated(self, game: str) -> Optional[str]:
+        """The record with a note after each turn."""
+        return self._written(lambda out: ["annotate", *self._options, *self._pair, "-", out], game)[1]
+
+    def compare(self, first: str, second: str) -> Compared:
+        """What differs between two sheets, and the record that is made of both."""
+        with tempfile.TemporaryDirectory() as folder:
+            sheet = Path(folder, "second.gcg")
+            sheet.write_text(second, encoding="utf-8")
+            ran, merged = self._written(lambda out: ["compare", *self._options, "--merged", out, *self._pair, "-", str(sheet)], first)
+        told = [line.replace(str(sheet), "second sheet") for line in ran.stdout.splitlines()]
+        if ran.returncode == 3:
+            told += [line[len(ASIDE) :].replace(str(sheet), "second sheet").replace("standard input", "first sheet") for line in ran.stderr.splitlines()]
+        return Compared(ran.returncode, told, merged)
+
+    @property
+    def _options(self) -> list[str]:
+        return self.settings.options
+
+    @property
+    def _pair(self) -> list[str]:
+        return [self.settings.words, self.settings.lexicon]
+
+    def _run(self, words: list[str], game: str) -> subprocess.CompletedProcess[str]:
+        """Runs a command, with a game as its standard input."""
+        try:
+            return subprocess.run([self.settings.program, *words], input=game, capture_output=True, encoding="utf-8", errors="replace", timeout=self.settings.seconds, check=False)
+        except subprocess.TimeoutExpired as error:
+            raise TooLong from error
+        except OSError as error:
+            raise Broken(error) from error
+
+    def _written(self, words: Callable[[str], list[str]], game: str) -> tuple[subprocess.CompletedProcess[str], Optional[str]]:
+        """Runs a command that writes to a file, and gives back what it wrote, if it wrote."""
+        with tempfile.TemporaryDirectory() as folder:
+            out = os.path.join(folder, "out")
+            ran = self._run(words(out), game)
+            return ran, Path(out).read_text(encoding="utf-8") if os.path.exists(out) else None
+
+
+def _why(bad: BadInput) -> Answer:
+    """The object that says why there is no other answer."""
+    return bad.answer if bad.answer is not None else Answer(verdict=str(bad), line=None, fault=None)
+
+
+def _with_numbers(draft: str, scores: dict[int, int]) -> str:
+    """A draft with scores at the ends of these lines, and with the totals that are missing, each of which is the player's last total and the score."""
+    totals: dict[str, int] = {}
+    lines = []
+    for number, line in enumerate(drafts.lines_of(draft), 1):
+        fields = drafts.fields_of(line)
+        if fields and len(fields.numbers) <= 2:
+            given = fields.numbers or ([f"{scores[number]:+d}"] if number in scores else [])
+            if len(given) == 1 and drafts.NUMBER.match(given[0]):
+                given = [*given, str(totals.get(fields.nick, 0) + int(given[0]))]
+            line = line.rstrip() + "".join(f" {it}" for it in given[len(fields.numbers) :])
+            if len(given) == 2 and drafts.NUMBER.match(given[1]):
+                totals[fields.nick] = int(given[1])
+        lines.append(line)
+    return "\n".join(lines)
+
+
+class _Texts(HTMLParser):
+    """The texts of the elements of a page that are of one class and of no other."""
+
+    def __init__(self, kind: str) -> None:
+        super().__init__()
+        self.kind, self.texts, self.is_inside = kind, [""], False
+
+    def handle_starttag(self, tag: str, attrs: list[tuple[str, Optional[str]]]) -> None:
+        self.is_inside = self.is_inside or ("class", self.kind) in attrs
+
+    def handle_endtag(self, tag: str) -> None:
+        if self.is_inside and tag == "p":
+            self.is_inside = False
+            self.texts.append("")
+
+    def handle_data(self, data: str) -> None:
+        if self.is_inside:
+            self.texts[-1] += data
+
+
+def _texts_of(page: str, kind: str) -> list[str]:
+    """The lines of the paragraphs of a class."""
+    parser = _Texts(kind)
+    parser.feed(page)
+    return [line for text in parser.texts for line in text.splitlines() if line.strip()]
