@@ -27,7 +27,7 @@ def create_app(settings: Optional[Settings] = None) -> Flask:
     app.jinja_env.filters["sentence"] = shown.sentence
     app.jinja_env.filters["event_text"] = shown.event_text
     judge = Judge(settings)
-    app.jinja_env.globals["words"] = judge.words
+    app.jinja_env.globals["list_size"] = f"{judge.words:,}"
     app.extensions["judge"] = judge
     atexit.register(judge.close)
     Guard(app, settings)

@@ -117,8 +117,7 @@ def game() -> AnyResponse | str:
             return redirect(url_for("entering.new_game"), 303)
     elif do == "keep":
         return _kept(text)
-    text = judge().filled(text).text
-    return render_game(_done(do, about, text))
+    return render_game(_done(do, about, judge().filled(text).text))
 
 
 def _kept(text: str) -> Response:
@@ -179,7 +178,8 @@ def _tried(text: str, entry: Entry, nick: str) -> View:
     """A game with a line of this player, or why it is refused."""
     entry = _with_bonus(text, entry, nick)
     line = entry.line(nick)
-    longer = judge().filled(drafts.with_line(text, line)).text
+    filled = judge().filled(drafts.with_line(text, line))
+    longer = filled.judged
     told = judge().verdict(longer)
     if told["verdict"] in ("legal", "unsettled") and len(told["events"]) == len(drafts.event_lines(longer)):
         return View(longer)
@@ -199,7 +199,7 @@ def _with_bonus(text: str, entry: Entry, nick: str) -> Entry:
 
 def render_game(view: View) -> str:
     """The page of a game that is entered."""
-    text = view.text
+    shown_text, text = view.text, judge().filled(view.text).judged
     told = judge().verdict(text)
     stands = told["verdict"] in ("legal", "unsettled")
     events: list[dict[str, Any]] = told.get("events") or []
@@ -213,13 +213,13 @@ def render_game(view: View) -> str:
         here="game",
         view=view,
         entry=view.entry,
-        text=text,
+        text=shown_text,
         told=told,
         headline=shown.verdict_text(told),
         stands=stands,
         events=events,
         last=last,
-        play=(last or {}).get("play"),
+        play=last.get("play") if last else None,
         players=_seats(text, board, events),
         next=judge().next(text) if stands else None,
         rows=shown.board_of(board, marked),
@@ -232,7 +232,7 @@ def render_game(view: View) -> str:
 
 def _marked(last: Optional[dict[str, Any]]) -> list[str]:
     """The squares on which the last play put down tiles."""
-    play = (last or {}).get("play")
+    play = last.get("play") if last else None
     return [square["square"] for word in play["words"] for square in word["squares"] if square["new"]] if play else []
 
 

@@ -37,7 +37,8 @@ def text_in(name: str) -> str:
         return text_of(sent.read())
     if f"{name}-kept" in request.form:
         return unkept(request.form[f"{name}-kept"])
-    return (request.form.get(f"{name}-file") or request.form.get(name, "")).replace("\r\n", "\n")
+    text: str = request.form.get(f"{name}-file") or request.form.get(name) or ""
+    return text.replace("\r\n", "\n")
 
 
 def field(name: str) -> str:

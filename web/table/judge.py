@@ -31,9 +31,11 @@ class TooLong(Exception):
 
 @dataclass(frozen=True)
 class Filled:
-    """A record that was made of a draft, and how many numbers were put in."""
+    """A record that was made of a draft (`judged`), and how many numbers were put in. Its `text` is the draft with those of them that are right: from a
+    line on that the rules refuse, none can be."""
 
     text: str
+    judged: str
     number: int
 
 
@@ -168,15 +170,21 @@ class Judge:
         """A draft with the numbers that are missing. The scores are those that the audit gives; a total is the total before it and the score."""
         holes = {number: fields.missing for number, line in enumerate(drafts.lines_of(draft), 1) if (fields := drafts.fields_of(line)) and fields.missing}
         if not holes:
-            return Filled(draft, 0)
+            return Filled(draft, draft, 0)
         zeros = _with_numbers(draft, {number: 0 for number, many in holes.items() if many == 2})
         try:
             told = self._ask("audit", game=zeros)
         except BadInput:
-            return Filled(zeros, sum(holes.values()))
+            return self._known(draft, zeros, holes)
         scores = {wrong["line"]: wrong["right"] for wrong in told["wrong"] if wrong["wrong"] == "score"}
         right = {number: scores.get(number, 0) for number, many in holes.items() if many == 2}
-        return Filled(_with_numbers(draft, right), sum(holes.values()))
+        return self._known(draft, _with_numbers(draft, right), holes)
+
+    def _known(self, draft: str, judged: str, holes: dict[int, int]) -> Filled:
+        """A draft with the numbers up to the line that is refused."""
+        refused = self.verdict(judged).get("line") or len(judged)
+        lines = drafts.lines_of(judged)[: refused - 1] + drafts.lines_of(draft)[refused - 1 :]
+        return Filled("\n".join(lines), judged, sum(many for number, many in holes.items() if number < refused))
 
     def next(self, game: str) -> Next:
         """Whose turn it is. A pass of a player tells it: it stands, but for its total, or the program says that the game is over."""

@@ -14,6 +14,7 @@ from .judge import TooLong
 
 pages = Blueprint("sheets", __name__)
 
+KINDS = {"legal": "legal", "unsettled": "unsettled"}
 NO_TEXT = "There is no game yet. Choose a file, or paste its text."
 
 
@@ -36,27 +37,27 @@ def sheet() -> str:
     if not written.strip():
         return render_template("sheet.html", here="sheet", missing=NO_TEXT)
     filled = judge().filled(written)
-    text = filled.text
+    text, has_holes = filled.judged, drafts.has_holes(filled.text)
     verdict = judge().line(text)
     told = judge().audit(text)
     faulty = verdict["verdict"] in ("illegal", "bad record")
     return render_template(
         "checked.html",
         here="sheet",
-        text=text,
-        written=written,
+        text=filled.text,
+        has_holes=has_holes,
         put_in=filled.number,
         verdict=verdict,
         headline=_headline(verdict, told),
-        kind=_kind(verdict, told),
+        kind=KINDS.get(verdict["verdict"], "illegal"),
         reasons=judge().reasons(text),
         told=told,
-        wrong=[it for it in told.get("wrong") or [] if it["written"] != it["right"]],
+        wrong=[] if has_holes else [it for it in told.get("wrong") or [] if it["written"] != it["right"]],
         line_text=_line_text(text, verdict.get("line")),
         corrected=told.text if told.text is not None and told.text != text else None,
         stands=told["verdict"] == "legal",
         taken=bool(request.form.get("taken")),
-        **(_repairs(text, told) if faulty else {}),
+        **(_repairs(text) if faulty and not has_holes else {}),
     )
 
 
@@ -74,12 +75,7 @@ def _headline(verdict: dict[str, Any], told: dict[str, Any]) -> str:
     return shown.verdict_text(verdict)
 
 
-def _kind(verdict: dict[str, Any], told: dict[str, Any]) -> str:
-    """The colour of a verdict."""
-    return {"legal": "legal", "illegal": "illegal", "unsettled": "unsettled"}.get(verdict["verdict"], "illegal")
-
-
-def _repairs(text: str, told: dict[str, Any]) -> dict[str, Any]:
+def _repairs(text: str) -> dict[str, Any]:
     """The likely repairs of a sheet that does not stand, or that they took too long."""
     try:
         found = judge().repairs(text)
@@ -108,11 +104,11 @@ def two_form() -> str:
 @pages.post("/two")
 def two() -> str:
     """Where two sheets of one game differ, and the record that is made of them."""
-    first, second = judge().filled(text_in("first")), judge().filled(text_in("second"))
-    if not first.text.strip() or not second.text.strip():
-        return render_template("two.html", here="two", missing="Two sheets are needed: choose two files, or paste two texts.", texts=(first.text, second.text))
-    told = judge().compare(first.text, second.text)
-    return render_template("compared.html", here="two", told=told, rows=[_row(row) for row in told.rows], first=first.text, second=second.text)
+    first, second = (judge().filled(text_in(name)).judged for name in ("first", "second"))
+    if not first.strip() or not second.strip():
+        return render_template("two.html", here="two", missing="Two sheets are needed: choose two files, or paste two texts.", texts=(first, second))
+    told = judge().compare(first, second)
+    return render_template("compared.html", here="two", told=told, rows=[_row(row) for row in told.rows], first=first, second=second)
 
 
 def _row(row: str) -> dict[str, str]:
@@ -146,7 +142,7 @@ def view_form() -> str:
 @pages.post("/view")
 def view() -> str:
     """The page of a game in a frame that may do nothing, and the best plays of a rack."""
-    text = judge().filled(text_in("game")).text
+    text = judge().filled(text_in("game")).judged
     if not text.strip():
         return render_template("view.html", here="view", missing=NO_TEXT)
     told = judge().verdict(text)

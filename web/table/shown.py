@@ -103,7 +103,11 @@ def repairs_of(told: dict[str, Any], sheet: str, most: int = 5) -> list[Repair]:
     found = whole + [(it, [it]) for it in told.get("repairs") or []] + [(it, it["changes"]) for it in told.get("pairs") or []]
     if told.get("chain"):
         found.append((told["chain"], told["chain"]["changes"]))
-    return [_repair(it, changes, sheet) for it, changes in sorted(found, key=lambda it: it[0]["cost"])[:most]]
+    return [_repair(it, changes, sheet) for it, changes in sorted(found, key=_cost)[:most]]
+
+
+def _cost(found: tuple[dict[str, Any], list[dict[str, Any]]]) -> int:
+    return int(found[0]["cost"])
 
 
 def _repair(told: dict[str, Any], changes: list[dict[str, Any]], sheet: str) -> Repair:
