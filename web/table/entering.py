@@ -14,6 +14,7 @@ from .forms import download, field as field_in, judge, line_in, text_in
 pages = Blueprint("entering", __name__)
 
 KINDS = ("play", "pass", "exchange", "withdraw", "challenge", "time", "last")
+PLACE = re.compile(r"[0-9]{1,2}[A-Oa-o]|[A-Oa-o][0-9]{1,2}")
 FOR_WHO_IS_ON_TURN = ("play", "pass", "exchange")
 
 
@@ -60,7 +61,7 @@ def entry_in() -> Entry:
 def move_of(text: str) -> str:
     """A play as it is typed, with its place in capitals. A word of three small letters or more is one that was typed without capitals."""
     place, space, word = text.partition(" ")
-    if not re.fullmatch(r"[0-9]{1,2}[A-Oa-o]|[A-Oa-o][0-9]{1,2}", place):
+    if not PLACE.fullmatch(place):
         return text
     letters = [letter for letter in word if letter.isalpha()]
     return place.upper() + space + (word.upper() if len(letters) > 2 and all(letter.islower() for letter in letters) else word)
@@ -143,9 +144,8 @@ def _with_square(entry: Entry, square: str) -> Entry:
     found = re.fullmatch(r"([0-9]{1,2})([A-O])", square)
     if not found:
         return entry
-    place, _, word = entry.move.partition(" ")
-    down = found[2] + found[1]
-    return replace(entry, kind="play", move=f"{down if place == square else square} {word if place[:1].isdigit() or place == down else ''}")
+    place, _, word = entry.move.partition(" ") if PLACE.match(entry.move) else ("", "", entry.move)
+    return replace(entry, kind="play", move=f"{found[2] + found[1] if place == square else square} {word}")
 
 
 def added(text: str, entry: Entry) -> View:
