@@ -1,8 +1,8 @@
 #!/usr/bin/env bash
 # Packs a release: extra/release.sh FOLDER [PROGRAM]
 #
-# Writes FOLDER/referee-VERSION.tar.gz, with the program, its manual page, the completions for bash, zsh and fish, the client in Python, README and
-# what it links to, and SHA256SUMS, which has the sums of all of them; and beside it the sum of the archive. Without PROGRAM the program is first
+# Writes FOLDER/referee-VERSION.tar.gz, with the program, its manual page, the completions for bash, zsh and fish, the client in Python, the web page,
+# README and what it links to, and SHA256SUMS, which has the sums of all of them; and beside it the sum of the archive. Without PROGRAM the program is first
 # proved and built by extra/prove.sh, and extra/edits.sh tries the edits that the gate leaves out; neither takes long if nothing has changed since it
 # last ran. PROGRAM is a program that was proved already, as the gate leaves it in crates/referee/out/referee.
 set -eu
@@ -30,7 +30,7 @@ trap 'rm -rf "$room"' EXIT
 name=referee-$version
 mkdir "$room/$name"
 cp "$program" "$room/$name/referee"
-cp -r "$root/README.md" "$root/CHANGELOG.md" "$root/docs" "$root/examples" "$root/extra/referee.1" "$root/extra/referee.bash" "$root/extra/_referee" "$root/extra/referee.fish" "$root/python" "$root/extra/club.py" "$room/$name"
+cp -r "$root/README.md" "$root/CHANGELOG.md" "$root/docs" "$root/examples" "$root/extra/referee.1" "$root/extra/referee.bash" "$root/extra/_referee" "$root/extra/referee.fish" "$root/python" "$root/web" "$room/$name"
 find "$room/$name" -name __pycache__ -prune -exec rm -r {} +
 (cd "$room/$name" && find . -type f ! -name SHA256SUMS -printf '%P\n' | LC_ALL=C sort | xargs sha256sum > SHA256SUMS)
 # The same files make the same archive.

@@ -1,26 +1,20 @@
-"""Tries the client in `python/` and the page for a club: client PROGRAM CASES SEED
+"""Tries the client in `python/`: client PROGRAM CASES SEED
 
 The client has to give the answers of the commands for as many games as CASES says, to start a program again that is killed or does not answer, and to answer
-1,000 requests from 8 threads, each with its own answer. The page has to take files and pasted text, to refuse what is too long and what comes from
-another site, and to send the headers that forbid scripts and frames.
+1,000 requests from 8 threads, each with its own answer.
 """
-import http.client
 import json
 import os
 import random
-import re
 import signal
 import sys
 import tempfile
-import threading
 from concurrent.futures import ThreadPoolExecutor
 from pathlib import Path
 
 ROOT = Path(__file__).resolve().parents[2]
-sys.path += [str(ROOT / "python"), str(ROOT / "extra")]
+sys.path.append(str(ROOT / "python"))
 
-from club import Club
-from http.server import ThreadingHTTPServer
 from referee import BadInput, BadRequest, Broken, Referee, TimedOut, text_of
 
 from comparing import Differences
@@ -124,54 +118,6 @@ class Client(Differences):
             with ThreadPoolExecutor(8) as pool:
                 self.expect(all(pool.map(ask, range(1000))), "an answer is that of another request")
 
-    def clubs(self):
-        """The page for a club."""
-        with Referee(self.folder / "words", self.folder / "lexicon", program=self.program) as Club.referee:
-            with ThreadingHTTPServer(("127.0.0.1", 0), Club) as server:
-                threading.Thread(target=server.serve_forever, daemon=True).start()
-                self.browse(server.server_port)
-                server.shutdown()
-
-    def browse(self, port):
-        """What a browser may ask, and what it may not."""
-
-        def ask(method, path, body=None, **headers):
-            asked = http.client.HTTPConnection("127.0.0.1", port, timeout=30)
-            asked.request(method, path, body, {name.replace("_", "-"): value for name, value in headers.items()})
-            answer = asked.getresponse()
-            text = answer.read().decode()
-            for name, part in (("Content-Security-Policy", "default-src 'none'"), ("Content-Security-Policy", "frame-ancestors 'none'"), ("X-Frame-Options", "DENY"), ("X-Content-Type-Options", "nosniff")):
-                self.expect(part in (answer.getheader(name) or ""), path, name, answer.getheader(name))
-            self.expect("<script" not in text, path)
-            asked.close()
-            return answer.status, text
-
-        def post(path, name, data, kind="", **headers):
-            body = b'--x\r\nContent-Disposition: form-data; name="%s"%s\r\n\r\n%s\r\n--x--\r\n' % (name.encode(), kind.encode(), data)
-            return ask("POST", path, body, Content_Type="multipart/form-data; boundary=x", **headers)
-
-        status, text = ask("GET", "/")
-        self.expect(status == 200 and "<form" in text, status, text)
-        status, text = post("/audit", "game", WRONG.replace("\n", "\r\n").encode())
-        self.expect(status == 200 and "<td>18</td><td>16</td>" in text and "Keep the corrected sheet" in text, status, text)
-        kept = re.search('action="/corrected"><input type="hidden" name="kept" value="([^"]*)"', text)[1].encode()
-        self.expect(post("/corrected", "kept", kept) == (200, WRONG.replace("18", "16")), kept)
-        status, text = post("/page", "file", ("#player1 A <b>Ann\n" + WORD).encode(), '; filename="game.gcg"')
-        self.expect(status == 200 and "&lt;b&gt;Ann" in text and "<b>Ann" not in text, status, text)
-        status, text = post("/audit", "game", b"#player1 A x\n>A: <i>\n")
-        self.expect(status == 200 and "<i>" not in text and "bad record" in text, status, text)
-        self.expect(post("/audit", "game", b" ")[0] == 400)
-        self.expect(post("/audit", "kept", b"$")[0] == 400)
-        # The server refuses by the length alone, and would not wait for the body.
-        self.expect(ask("POST", "/audit", b"", Content_Type="multipart/form-data; boundary=x", Content_Length=str(2 << 20))[0] == 413)
-        self.expect(post("/corrected", "game", b">A: DORWAAE 8A WORD +16 16\n")[0] == 409, "a sheet without a correction")
-        self.expect(ask("POST", "/audit", b"x", Content_Type="text/plain")[0] == 415)
-        self.expect(ask("POST", "/audit", b"", Content_Length="x")[0] == 411)
-        self.expect(ask("GET", "/etc/passwd")[0] == 404 and post("/none", "game", b"x")[0] == 404)
-        for headers in ({"Host": "example.org"}, {"Origin": "http://example.org"}, {"Origin": "null"}, {"Sec_Fetch_Site": "cross-site"}):
-            self.expect(post("/audit", "game", WRONG.encode(), **headers)[0] == 403, headers)
-        self.expect(post("/audit", "game", WRONG.encode(), Origin=f"http://127.0.0.1:{port}", Sec_Fetch_Site="same-origin")[0] == 200)
-
 
 def main():
     program, cases = str(Path(sys.argv[1]).resolve()), int(sys.argv[2])
@@ -181,7 +127,6 @@ def main():
         client.games(cases)
         client.endings()
         client.threads()
-        client.clubs()
     client.end(cases, "games")
 
 

@@ -1,0 +1,105 @@
+"""How each page looks: contrast, labels, and that nothing is wider than the window, at 360 and 1,200 pixels, in light and in dark.
+
+With TABLE_PICTURES=FOLDER a picture of each is written there, to be looked at.
+"""
+from __future__ import annotations
+
+import unittest
+from pathlib import Path
+from typing import Callable
+
+from browsing import SIZES, Browser
+from support import GAME, PICTURES, WRONG_PLACE, shared_page
+
+LOOKS = (Path(__file__).parent / "looks.js").read_text()
+HALF = "\n".join(GAME.split("\n")[:29]) + "\n"
+
+
+class Looks(unittest.TestCase):
+    """Each page that there is."""
+
+    @classmethod
+    def setUpClass(cls) -> None:
+        cls.browser = Browser(shared_page().url)
+
+    @classmethod
+    def tearDownClass(cls) -> None:
+        cls.browser.close()
+
+    def put(self, selector: str, text: str) -> None:
+        """A text in a field, at once."""
+        self.browser.driver.execute_script("document.querySelector(arguments[0]).value = arguments[1]", selector, text)
+
+    def given(self, path: str, button: str, **fields: str) -> None:
+        """A form that is filled and sent."""
+        self.browser.open(path)
+        for name, text in fields.items():
+            self.put(f"#{name}", text)
+        self.browser.press(button)
+
+    def refused(self) -> None:
+        self.given("/game", "Go on", game=HALF)
+        self.put("#move", "A8 XX")
+        self.browser.press("Enter")
+
+    def each_word(self) -> None:
+        self.browser.open("/challenge")
+        self.put("#words", "nod zyx")
+        self.browser.find("[name=each]").click()
+        self.browser.press("Rule on it")
+
+    def best_plays(self) -> None:
+        self.given("/view", "Show it", game=GAME)
+        self.put("#rack", "AEINRS?")
+        self.put("#line", "20")
+        self.browser.press("Look")
+
+    def stale(self) -> None:
+        self.browser.open("/sheet")
+        self.put("[name=token]", "x")
+        self.put("#game", GAME)
+        self.browser.press("Check it")
+
+    def pages(self) -> dict[str, Callable[[], None]]:
+        """How one comes to each page."""
+        return {
+            "home": lambda: self.browser.open("/"),
+            "start": lambda: self.browser.open("/game"),
+            "new": lambda: self.given("/game", "Begin", first="Ann Lee", second="Bob Ray"),
+            "game": lambda: self.given("/game", "Go on", game=HALF),
+            "over": lambda: self.given("/game", "Go on", game=GAME),
+            "refused": self.refused,
+            "faulty": lambda: self.given("/game", "Go on", game=WRONG_PLACE),
+            "sheet": lambda: self.browser.open("/sheet"),
+            "checked": lambda: self.given("/sheet", "Check it", game=WRONG_PLACE),
+            "numbers": lambda: self.given("/sheet", "Check it", game=GAME.replace("+28 28", "+29 28", 1)),
+            "right": lambda: self.given("/sheet", "Check it", game=GAME),
+            "bad": lambda: self.given("/sheet", "Check it", game=">Ann Lee: 8E GAZE +28 28\n"),
+            "two": lambda: self.browser.open("/two"),
+            "compared": lambda: self.given("/two", "Compare them", first=WRONG_PLACE, second=GAME),
+            "challenge": lambda: self.browser.open("/challenge"),
+            "acceptable": lambda: self.given("/challenge", "Rule on it", words="nod zoo"),
+            "not-acceptable": self.each_word,
+            "view": lambda: self.browser.open("/view"),
+            "viewed": self.best_plays,
+            "stale": self.stale,
+            "none": lambda: self.browser.open("/none"),
+        }
+
+    def test_looks(self) -> None:
+        if PICTURES:
+            Path(PICTURES).mkdir(parents=True, exist_ok=True)
+        for name, come in self.pages().items():
+            self.browser.size(1200, 900, False)
+            come()
+            for width, height in SIZES:
+                for is_dark in (False, True):
+                    self.browser.size(width, height, is_dark)
+                    with self.subTest(page=name, width=width, is_dark=is_dark):
+                        self.assertEqual(self.browser.driver.execute_script(LOOKS), [])
+                        if PICTURES:
+                            self.browser.picture(Path(PICTURES, f"{name}-{width}-{'dark' if is_dark else 'light'}.png"))
+
+
+if __name__ == "__main__":
+    unittest.main()
