@@ -15,6 +15,12 @@ from .judge import TooLong
 pages = Blueprint("sheets", __name__)
 
 KINDS = {"legal": "legal", "unsettled": "unsettled"}
+MERGED = {
+    "legal complete": "The merged game stands, and it is complete.",
+    "legal unfinished": "The merged game stands so far.",
+    "unsettled": "Every event of the merged game stands. Whether the racks could be dealt is open.",
+    "written: the merged record": "The merged record can be kept, below.",
+}
 NO_TEXT = "There is no game yet. Choose a file, or paste its text."
 
 
@@ -115,7 +121,7 @@ def _row(row: str) -> dict[str, str]:
     """A line of a comparison in its parts, if it is about two lines; else as it is."""
     found = re.fullmatch(r"(.*?) \| (.*?): (.*?) \| (.*?)(?:: (.*))?", row)
     if not found or not row.startswith("line "):
-        return {"text": shown.sentence(row)}
+        return {"text": MERGED.get(row, shown.sentence(row))}
     return {"first_at": found[1], "second_at": found[2], "first": found[3], "second": found[4], "right": shown.sentence(found[5] or "")}
 
 

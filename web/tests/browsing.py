@@ -22,7 +22,7 @@ class Browser:
     def __init__(self, url: str, scripts: bool = True) -> None:
         self.url, self.folder = url, Path(tempfile.mkdtemp(prefix="table-kept-"))
         options = webdriver.ChromeOptions()
-        for word in ("--headless=new", "--no-sandbox", "--hide-scrollbars", "--disable-gpu", "--disable-dev-shm-usage", "--window-size=1200,900", "--lang=en"):
+        for word in ("--headless=new", "--no-sandbox", "--hide-scrollbars", "--disable-gpu", "--disable-dev-shm-usage", "--disable-renderer-backgrounding", "--disable-extensions", "--window-size=1200,900", "--lang=en"):
             options.add_argument(word)
         preferences: dict[str, Any] = {"download.default_directory": str(self.folder)}
         if not scripts:
@@ -55,10 +55,15 @@ class Browser:
         return " ".join(self.find(selector).text.split())
 
     def type(self, selector: str, text: str) -> None:
-        """Types a text in place of what is in a field."""
+        """Types a text in place of what is in a field, or pastes it if it is long."""
         field = self.find(selector)
-        field.clear()
-        field.send_keys(text)
+        if field.get_attribute("value"):
+            field.clear()
+        if len(text) < 100:
+            field.send_keys(text)
+        else:
+            field.click()
+            self.driver.execute_cdp_cmd("Input.insertText", {"text": text})
 
     def choose(self, selector: str) -> None:
         """Chooses a radio button, if it is not chosen."""

@@ -63,7 +63,7 @@ class Page:
         command = [str(ROOT / "web" / "start.sh"), "--port", str(self.port), "--workers", str(workers), str(self.words)]
         environment = os.environ | {"REFEREE": PROGRAM} | settings
         self.log = open(self.folder / "log", "w+")
-        self.process = subprocess.Popen(command, stdout=self.log, stderr=subprocess.STDOUT, env=environment, start_new_session=True)
+        self.process = subprocess.Popen(command, stdout=self.log, stderr=subprocess.STDOUT, env=environment)
         atexit.register(self.close)
         self.wait()
 

@@ -1,4 +1,5 @@
-// A little help, without which everything works: a click on a square fills the place of the play without a new page, and a second click turns it.
+// A little help, without which everything works. A click on a square fills the place of the play without a new page, and a second click turns it; whoever
+// leaves a game that is only on the page is asked first.
 "use strict";
 
 const move = document.getElementById("move");
@@ -27,4 +28,15 @@ if (move) {
 for (const file of document.querySelectorAll("input[type=file]")) {
   const text = document.getElementById(file.id.replace("-file", ""));
   file.addEventListener("change", () => text.classList.toggle("unused", file.files.length > 0));
+}
+
+// A game that is entered is only on its page.
+if (move && document.querySelector("#last, #refused")) {
+  let isSent = false;
+  document.addEventListener("submit", () => { isSent = true; });
+  window.addEventListener("beforeunload", event => {
+    if (!isSent) {
+      event.preventDefault();
+    }
+  });
 }
