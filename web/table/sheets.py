@@ -77,7 +77,7 @@ def _headline(verdict: dict[str, Any], told: dict[str, Any]) -> str:
     wrong = [it for it in told.get("wrong") or [] if it["written"] != it["right"] and it["wrong"] != "last total"]
     if verdict["verdict"] == "illegal" and told["verdict"] == "legal" and wrong:
         many = len(wrong)
-        return f"{many} number{' is' if many == 1 else 's are'} wrong. With the right ones the game stands."
+        return "1 number is wrong. With the right one the game stands." if many == 1 else f"{many} numbers are wrong. With the right ones the game stands."
     return shown.verdict_text(verdict)
 
 

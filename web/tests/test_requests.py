@@ -190,7 +190,7 @@ class Checking(Asking):
     def test_numbers(self) -> None:
         """Wrong numbers, and the corrected sheet to keep; its own line ends stay."""
         text = self.post("/sheet", game=WRONG_SCORE)
-        self.assertIn("1 number is wrong. With the right ones the game stands.", words_in(text))
+        self.assertIn("1 number is wrong. With the right one the game stands.", words_in(text))
         self.assertRegex(words_in(text), r"6 Ann 8E GAZE score 29 28")
         self.assertEqual(self.kept(text, "corrected"), GAME)
         body = b'--x\r\nContent-Disposition: form-data; name="token"\r\n\r\n%s\r\n--x\r\nContent-Disposition: form-data; name="game-file"; filename="g.gcg"\r\n\r\n%s\r\n--x--\r\n'
@@ -267,12 +267,13 @@ class Checking(Asking):
     def test_view(self) -> None:
         """The page of a game is in a frame that may do nothing, and is the page of the command."""
         text = self.post("/view", game=GAME)
-        found = re.search(r'<iframe class="page" title="[^"]*" sandbox="" srcdoc="([^"]*)"', text)
+        found = re.search(r'<iframe class="page" title="[^"]*" sandbox="" src="data:text/html;charset=utf-8;base64,([^"]*)"', text)
         assert found
         with tempfile.TemporaryDirectory() as folder:
             pair = [str(EXAMPLES / name) for name in ("words.txt", "words.gad")]
             subprocess.run([PROGRAM, "page", *pair, str(EXAMPLES / "game.gcg"), f"{folder}/page"], check=True, stdout=subprocess.DEVNULL)
             page = Path(folder, "page").read_text()
+        self.assertEqual(base64.b64decode(found[1]).decode(), page)
         self.assertEqual(self.client.post("/keep", {"what": "page", "game": GAME})[1], page)
         self.assertIn("'sha256-", self.client.get("/view")[1] and self.post("/view", game=GAME) and self.client.headers["Content-Security-Policy"])
         text = words_in(self.post("/view", game=GAME, rack="aeinrs?", line="20"))
