@@ -251,6 +251,7 @@ class Sheets(Browsing):
         self.browser.press("Check the sheet")
         self.assertIn("The game stands, and it is complete.", self.browser.text("#verdict"))
         self.browser.press("Show the game")
+        self.browser.find(".best summary").click()
         self.browser.type("#rack", "aeinrs?")
         self.browser.type("#line", "20")
         self.browser.press("Look")

@@ -4,6 +4,7 @@ With TABLE_PICTURES=FOLDER a picture of each is written there, to be looked at.
 """
 from __future__ import annotations
 
+import time
 import unittest
 from pathlib import Path
 from typing import Callable
@@ -50,6 +51,7 @@ class Looks(unittest.TestCase):
 
     def best_plays(self) -> None:
         self.given("/view", "Show it", game=GAME)
+        self.browser.find(".best summary").click()
         self.put("#rack", "AEINRS?")
         self.put("#line", "20")
         self.browser.press("Look")
@@ -98,6 +100,7 @@ class Looks(unittest.TestCase):
                     with self.subTest(page=name, width=width, is_dark=is_dark):
                         self.assertEqual(self.browser.driver.execute_script(LOOKS), [])
                         if PICTURES:
+                            time.sleep(0.5 if self.browser.all("iframe") else 0)
                             self.browser.picture(Path(PICTURES, f"{name}-{width}-{'dark' if is_dark else 'light'}.png"))
 
 
