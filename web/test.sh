@@ -24,8 +24,8 @@ if [ ! -x "$REFEREE" ]; then
 fi
 if ! is_complete && [ "$(id -u)" = 0 ] && command -v apt-get > /dev/null; then
     echo "installing ${packages[*]}"
-    timeout 300 apt-get -qq update > /dev/null 2>&1
-    DEBIAN_FRONTEND=noninteractive timeout 900 apt-get -qq install -y --no-install-recommends "${packages[@]}" > /dev/null 2>&1
+    timeout 120 apt-get -qq update > /dev/null 2>&1
+    DEBIAN_FRONTEND=noninteractive timeout 480 apt-get -qq install -y --no-install-recommends "${packages[@]}" > /dev/null 2>&1
 fi
 if ! is_complete; then
     echo "########################################################################"
