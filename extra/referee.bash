@@ -16,7 +16,7 @@ _referee() {
         audit) options="--corrected --json --first-field --skip-others --rules -h --help" ;;
         explain) options="--json --first-field --skip-others --rules -h --help" ;;
         repair) options="--number --repaired --json --first-field --skip-others --rules -h --help" ;;
-        compare) options="--merged --first-field --skip-others --rules -h --help" ;;
+        compare) options="--merged --json --first-field --skip-others --rules -h --help" ;;
         page) options="--first-field --skip-others --rules -h --help" ;;
         annotate) options="--top --first-field --skip-others --rules -h --help" ;;
         build) options="--first-field --skip-others -h --help" ;;

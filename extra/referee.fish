@@ -94,6 +94,7 @@ complete -c referee -n '__referee_command repair' -l skip-others -d 'pass over t
 complete -c referee -n '__referee_command repair' -l rules -r -F -d 'the rules text; without it the rules are the English ones'
 complete -c referee -n '__referee_command repair' -s h -l help -d 'Print help'
 complete -c referee -n '__referee_command compare' -l merged -r -F -d 'write the merged record to this file, if one choice of the lines is ahead of all others; - is standard output'
+complete -c referee -n '__referee_command compare' -l json -d 'write the answer as a JSON object'
 complete -c referee -n '__referee_command compare' -l first-field -d 'read the first field of each line of WORDS, and ignore lines that begin with #'
 complete -c referee -n '__referee_command compare' -l skip-others -d 'pass over the lines of WORDS that are not words of 2 to 15 letters'
 complete -c referee -n '__referee_command compare' -l rules -r -F -d 'the rules text; without it the rules are the English ones'

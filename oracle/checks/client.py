@@ -43,7 +43,7 @@ class Client(Differences):
             _, events, words, _, text = some_inputs(self.put)
             by = ["--rules", "rules"] if text is not None else []
             at = dict(rules=self.folder / "rules") if text is not None else {}
-            with Referee(self.folder / "words", self.folder / "lexicon", program=self.program, **at) as referee:
+            with Referee(self.folder / "words", self.folder / "lexicon", program=self.program, timeout=600, **at) as referee:
                 self.expect(referee.words == len(set(words.split())) and referee.version == "1.1.0", referee.words, words)
                 for place in random.choices(range(len(events) + 1), k=10):
                     self.game(referee, by, self.put("game", "".join(map(line, events[:place])).encode()))
@@ -59,6 +59,8 @@ class Client(Differences):
             ("board", *([] if at is None else ["--before", str(at)])): lambda: referee.board(game, at),
             ("top", "--number", "3", "AEINRST"): lambda: referee.top(game, "AEINRST", number=3),
         }
+        if random.random() < 0.3:
+            asks["repair", "--number", "2"] = lambda: referee.repair(game, number=2)
         for (name, *options), ask in asks.items():
             behind = [options.pop()] if name == "top" or name == "explain" and options else []
             ran = self.run(name, "--json", *options, *by, *([] if name == "board" else ["words", "lexicon"]), "game", *behind)
@@ -70,6 +72,18 @@ class Client(Differences):
             self.seen[f"{name}: {status}"] += 1
             self.expect(json.loads(ran.stdout) == told and ran.returncode == status, name, options, game, ran.stdout, told)
         self.expect(self.run("tidy", "game").stdout.decode() == referee.tidy(game), game)
+        self.sheets(referee, by, game)
+
+    def sheets(self, referee, by, game):
+        """The same sheet with notes, and the same comparison with itself."""
+        pair = [*by, "words", "lexicon"]
+        ran, notes = self.run("compare", "--json", *pair, "game", "game"), self.run("annotate", "--top", "2", *pair, "game")
+        try:
+            self.expect(referee.annotate(game, number=2) == notes.stdout.decode(), game, notes.stdout)
+            told = referee.compare(game, game)
+            self.expect(json.loads(ran.stdout) == told and ran.returncode == told.status, game, ran.stdout, told)
+        except BadInput as bad:
+            self.expect(notes.returncode == ran.returncode == 3 and json.loads(ran.stdout)["verdict"] == bad.answer.verdict, game, ran.stdout, bad.answer)
 
     def endings(self):
         """A program that is killed, one that does not answer, and inputs that are bad."""
@@ -96,6 +110,7 @@ class Client(Differences):
             told = referee.audit(WRONG, corrected=True)
             self.expect(told.text == WRONG.replace("18", "16") and told.wrong[0]["right"] == 16, told, told.text)
             self.expect(referee.page("#player1 A <Ann>\n" + WORD).startswith("<!DOCTYPE html>"))
+            self.texts(referee)
             latin = b"#character-encoding ISO-8859-1\n#player1 A \xc9mile\n>A: DORWAAE 8E WORD +16 16\n"
             self.expect("Émile" in referee.page(latin) and referee.judge(latin).players[0]["name"] == "Émile", text_of(latin))
             other = "#character-encoding ISO-8859-15\n#player1 A Émile\n>A: DORWAAE 8E WORD +16 16\n"
@@ -106,6 +121,26 @@ class Client(Differences):
         self.raised(Broken, lambda: Referee(pair[0], self.folder / "none", program=self.program))
         self.raised(OSError, lambda: Referee(*pair, program=self.folder / "none"))
         self.raised(Broken, lambda: Referee(*pair, program="/bin/true"))
+
+    def texts(self, referee):
+        """Texts of sheets: repaired, merged and with notes; and what is raised where there is none."""
+        told = referee.repair(WORD.replace("8E", "9E"), repaired=True)
+        self.expect(told.status == 1 and told.text == WORD.replace("DORWAAE", "AADEORW") and told.repairs[0]["slip"] == "one square off", told, told.text)
+        self.expect(referee.repair(WORD, repaired=True).text is None and referee.repair(WORD).repairs == [])
+        self.expect(len(referee.repair(WORD.replace("8E", "9E"), number=1).repairs) == 1)
+        bad = self.raised(BadInput, lambda: referee.repair(WORD.replace(" 8E", ""), number=1, repaired=True))
+        self.expect(bad.answer.verdict == "bad record" and bad.answer.line_slips[0]["slip"] == "no place", bad.answer)
+        told = referee.compare(WORD, WORD.replace("8E", "9E"), merged=True)
+        self.expect(told.status == 1 and told.text == told.merged and told.text.endswith("8E WORD +16 16\n"), told, told.text)
+        self.expect(referee.compare(WORD, WORD).text is None and referee.compare(WORD.encode(), WORD).verdict == "agree")
+        self.expect(self.raised(BadInput, lambda: referee.compare(WORD, "")).answer.verdict == "no game")
+        self.expect(referee.annotate(WORD) == f"{WORD}#note best 8E WORD 16, equal\n")
+        noted = referee.annotate(WORD.replace("+16 16", "+18 18"))
+        self.expect(noted == ">A: DORWAAE 8E WORD +18 18\n#note The play scores 16, but 18 is written.\n", noted)
+        self.expect(self.raised(BadInput, lambda: referee.annotate("")).answer.verdict == "no game")
+        for number in (0, 101):
+            self.raised(BadRequest, lambda: referee.repair(WORD, number=number))
+            self.raised(BadRequest, lambda: referee.annotate(WORD, number=number))
 
     def threads(self):
         """1,000 requests from 8 threads."""

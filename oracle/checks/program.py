@@ -1345,6 +1345,21 @@ def served(run):
         ('{"do":"board","game":"","line":4294967296}', "line is no number from 0 to 4294967295"),
         ('{"do":"judge","game":"","settle":1}', "settle is neither true nor false"),
         ('{"id":[],"do":"tidy","game":""}', "id is neither a text nor a number"),
+        ('{"do":"repair"}', "repair needs game"),
+        ('{"do":"repair","game":"","number":0}', "number is no number from 1 to 100"),
+        ('{"do":"repair","game":"","number":101}', "number is no number from 1 to 100"),
+        ('{"do":"repair","game":"","repaired":1}', "repaired is neither true nor false"),
+        ('{"do":"repair","game":"","line":1}', 'repair has no \\"line\\"'),
+        ('{"do":"compare","second":""}', "compare needs first"),
+        ('{"do":"compare","first":""}', "compare needs second"),
+        ('{"do":"compare","first":"","second":7}', "second is no text"),
+        ('{"do":"compare","first":"","second":"","merged":"yes"}', "merged is neither true nor false"),
+        ('{"do":"compare","first":"","second":"","game":""}', 'compare has no \\"game\\"'),
+        ('{"do":"annotate","game":null}', "annotate needs game"),
+        ('{"do":"annotate","game":[]}', "game is no text"),
+        ('{"do":"annotate","game":"","number":0}', "number is no number from 1 to 100"),
+        ('{"do":"annotate","game":"","number":101}', "number is no number from 1 to 100"),
+        ('{"do":"annotate","game":"","likely":true}', 'annotate has no \\"likely\\"'),
     ]:
         run.row(["serve", *pair], 0, f'{ready}{{"id":null,"status":64,"error":"{error}"}}\n', stdin=f"{line}\n")
     # The letters of a rack may be lower case, as on the command line; no other character is a tile in either case.
@@ -1357,6 +1372,7 @@ def served(run):
     refused = '{"id":null,"status":3,"answer":{"verdict":"bad rack","line":null,"fault":null}}\n'
     for rack in ("", "a1", "\u00e4", "a t", "aaaaaaaa"):
         run.row(*by_at, f"{ready}{refused}", stdin=json.dumps({"do": "top", "game": "", "rack": rack, "line": 1}))
+    sheets_served(run)
     run.row(["serve", "digit", "word.gad"], 3, '{"verdict":"bad word list","line":2,"fault":{"name":"BadLetter"}}\n', error="", stdin=asked)
     run.row(["serve", "word", "at.gad"], 3, '{"verdict":"bad lexicon","line":null,"fault":{"name":"Extra","path":"A"}}\n', error="", stdin=asked)
     run.row(["serve", "--rules", "nothing", *pair], 3, '{"verdict":"bad rules","line":null,"fault":{"name":"Missing"}}\n', error="", stdin=asked)
@@ -1375,6 +1391,89 @@ def served(run):
             run.expect("an answer before the next line", process.stdout.readline().decode() == told)
         process.stdin.close()
         run.expect("it ends with the lines", process.wait(run.patience) == 0)
+
+
+ANY = object()
+NO_REPAIRS = {"numbers_alone": None, "repairs": [], "pairs": [], "chain": None, "left": None, "tried": None, "untried": None, "numbers_alone_settled": None, "sheet_slips": []}
+NO_GAME_HEAD = {"verdict": "no game", "line": None, "fault": None, "unread_lines": []}
+THIRD = {"verdict": "bad record", "line": 3, "fault": {"name": "ThirdPlayer"}}
+
+
+def sheets_served(run):
+    """The requests `repair`, `compare` and `annotate` to `serve`: the status, the object and the text of each, made by hand, and that the object is the one that
+    the command writes."""
+    run.row(["build", "word-at-ra", "word-at-ra.gad"], 0)
+    Path(run.folder, "eats").write_text("AT\nDT\nEAT\nOE\nRA\nWORD\n")
+    run.row(["build", "eats", "eats.gad"], 0)
+
+    def told(words, files, asked, status, answer=None, text=None):
+        """One request; where an answer is `ANY`, it is the one that the command writes. Of a sheet without notes it is that of `explain`."""
+        request = {"id": "n", **asked}
+        words = [words, f"{words}.gad"]
+        ran = subprocess.run([run.program, "serve", *words], cwd=run.folder, input=json.dumps(request).encode(), capture_output=True, check=False)
+        said = json.loads(ran.stdout.split(b"\n")[1])
+        wanted = {"id": "n", "status": status}
+        if answer is not None:
+            command = [{"annotate": "explain"}.get(asked["do"], asked["do"]), "--json"]
+            command += ["--number", str(asked["number"])] if asked["do"] == "repair" and "number" in asked else []
+            for key, name in files.items():
+                Path(run.folder, name).write_bytes(asked[key].encode())
+            ran = subprocess.run([run.program, *command, *words, *files.values()], cwd=run.folder, capture_output=True, check=False)
+            written = json.loads(ran.stdout)
+            run.expect(f"the status of the command beside {asked}", ran.returncode == status)
+            run.expect(f"the object of the command beside {asked}: {written}", answer is ANY or written == answer)
+            wanted["answer"] = written
+        wanted |= {} if text is None else {"text": text}
+        run.expect(f"{asked} is answered with {said} for {wanted}", said == wanted and list(said) == list(wanted))
+
+    def repair(words, game, status, answer=ANY, text=None, **more):
+        told(words, {"game": "asked"}, {"do": "repair", "game": game, **more}, status, answer, text)
+
+    def compare(one, other, status, answer, text=None, **more):
+        told("word", {"first": "asked", "second": "beside"}, {"do": "compare", "first": one, "second": other, **more}, status, answer, text)
+
+    def annotate(words, game, status, text=None, answer=None, **more):
+        told(words, {"game": "asked"}, {"do": "annotate", "game": game, **more}, status, answer, text)
+
+    at, eat, word = ">B: AT 9G AT +9 9\n", ">A: E 9F E.. +5 21\n", WORD.replace("DORWAAE", "AADEORW")
+    legal = {"verdict": "legal", "line": None, "fault": None, "ending": "unfinished"} | NO_REPAIRS | {"unread_lines": []}
+    for more in ({}, {"repaired": False}, {"repaired": True}, {"number": 1, "repaired": True}):
+        repair("word", WORD, 0, legal, **more)
+        repair("word", "", 3, NO_GAME_HEAD, **more)
+        repair("word", TEXTS["third"], 3, THIRD | {"line_slips": []}, **more)
+    repair("word-at-ra", WORD + at + at, 1, number=1)
+    repair("word-at-ra", WORD + at + at, 1, text=WORD + at, number=1, repaired=True)
+    repair("eats", WORD.replace("+16 16", "+18 18") + at, 1, text=WORD + at, repaired=True)
+    repair("eats", word + at[1:] + eat, 1, text=word + at + eat, repaired=True)
+    repair("eats", ">A: AADEORW E8 WORD +16 16\n>B: AT 9H AT +9 9\n" + eat, 1, repaired=True)
+    repair("eats", word.replace("8E ", "") + at + eat, 3)
+    repair("eats", word.replace("8E ", "") + at + eat, 3, text=word + at + eat, repaired=True)
+    merged, first, second = "#player1 A\n" + word, {"lines": ["first"], "racks": []}, {"lines": ["second"], "racks": []}
+    agree = comparison("agree", [], best={"lines": [], "racks": []}, merged=merged)
+    compare(WORD, WORD, 0, agree)
+    compare(WORD, WORD, 0, agree, merged=False)
+    compare(WORD, WORD, 0, agree, merged, merged=True)
+    one, refused = sheet_line("8E WORD +16 16"), {"first": 1, "second": 1, "fault": {"name": "MissesCentre"}}
+    centre = difference(one, sheet_line("8D WORD +16 16"), "differ", taken="first", other="refused", refused=refused)
+    compare(WORD, WORD.replace("8E", "8D"), 1, comparison("differ", [centre], choices=2, best=first, merged=merged), merged, merged=True)
+    both = difference(one, sheet_line("8F WORD +16 16"), "differ", taken="first", other="as good")
+    compare(WORD, WORD.replace("8E", "8F"), 1, comparison("differ", [both], choices=2, best=first, rivals=[second], why="other choice"), merged=True)
+    for sheets in ((TEXTS["third"], WORD), (WORD, TEXTS["third"]), (TEXTS["third"], "")):
+        compare(*sheets, 3, THIRD, merged=True)
+    for sheets in (("", WORD), (WORD, ""), ("", TEXTS["third"])):
+        compare(*sheets, 3, NO_GAME_HEAD, merged=True)
+    best = f"{WORD}#note best 8E WORD 16, equal\n"
+    annotate("word", WORD, 0, best)
+    annotate("word", WORD.replace("\n", "\r\n"), 0, best.replace("\n", "\r\n"))
+    annotate("word", TEXTS["line-18"], 1, ">A: DORWAAE 8E WORD +18 18\n#note The play scores 16, but 18 is written.\n")
+    run.row(["build", "at", "at.gad"], 0)
+    none = ">A: AEIRSUV - +0 0\n#note no play is possible\n>B: AEINRST - +0 0\n#note best 8G AT 4, 4 more"
+    annotate("at", TEXTS["no-play"], 0, f"{none}\n")
+    annotate("at", TEXTS["no-play"], 0, f"{none}\n", number=1)
+    annotate("at", TEXTS["no-play"], 0, f"{none}; then 8H AT 4, H7 AT 4\n", number=3)
+    for more in ({}, {"number": 1}, {"number": 100}):
+        annotate("word", TEXTS["third"], 3, answer=THIRD, **more)
+        annotate("word", "", 3, answer=NO_GAME_HEAD, **more)
 
 
 def audited(run):
@@ -1691,6 +1790,114 @@ def compared(run):
     run.row([*told, "line", "nowhere"], 4, error="referee: cannot open nowhere: no such file")
     for words in ([], ["line"], ["line", "line", "line"]):
         run.row([*told, *words], 64, error=None)
+    compared_in_json(run)
+
+
+def sheet_line(text, **more):
+    """The line of a sheet in the object of `compare`, made by hand."""
+    return {"line": 1, "player": 1, "nick": "A", "rack": "AADEORW", "text": text, **more}
+
+
+def difference(first, second, lines, **more):
+    """A pair of lines in the object of `compare`, made by hand: what is not said here is null, and the racks are the same."""
+    keys = dict.fromkeys(("taken", "other", "refused", "written", "right"))
+    return {"first": first, "second": second, "lines": lines, **keys, "racks": "same", "own_sheet": None, "own_rack": None, **more}
+
+
+def comparison(verdict, differences, *, choices=1, best=None, merged=None, why=None, **more):
+    """The object of `compare` on sheets with the play of WORD, made by hand."""
+    ahead, nobody = {"player": 1, "by": 16}, {"player": 2, "first": None, "second": None, "right": None}
+    return {
+        "verdict": verdict,
+        "line": None,
+        "fault": None,
+        "ending": "unfinished",
+        "players": [{"nick": "A", "name": None}, {"nick": None, "name": None}],
+        "differences": differences,
+        "not_varied": 0,
+        "choices": choices,
+        "best": best and {"choice": best, "cost": 0, "unlisted": 0},
+        "rivals": [],
+        "left": [],
+        "furthest": None,
+        "tried": [],
+        "best_repair": None,
+        "totals": [{"player": 1, "first": 16, "second": 16, "right": 16}, nobody],
+        "ahead": ahead,
+        "ahead_by_first": ahead,
+        "ahead_by_second": ahead,
+        "merged": merged,
+        "not_merged": why,
+    } | more
+
+
+def compared_in_json(run):
+    """`compare --json`: one object, whatever happened."""
+    told = ["compare", "--json", "word", "word.gad"]
+    merged = "#player1 A\n" + WORD.replace("DORWAAE", "AADEORW")
+    first, second = {"lines": ["first"], "racks": []}, {"lines": ["second"], "racks": []}
+    centre = {"first": 1, "second": 1, "fault": {"name": "MissesCentre"}}
+
+    def row(sheets, status, wanted):
+        ran = subprocess.run([run.program, *told, *sheets], cwd=run.folder, capture_output=True, check=False)
+        said = json.loads(ran.stdout)
+        run.expect(f"compare --json {sheets}: {said}", ran.returncode == status and said == wanted and list(said) == list(wanted) and not ran.stderr)
+
+    row(["line", "line"], 0, comparison("agree", [], best={"lines": [], "racks": []}, merged=merged))
+    one, other = sheet_line("8E WORD +16 16"), sheet_line("8D WORD +16 16")
+    refused = difference(one, other, "differ", taken="first", other="refused", refused=centre)
+    row(["line", "other"], 1, comparison("differ", [refused], choices=2, best=first, merged=merged))
+    refused = difference(other, one, "differ", taken="second", other="refused", refused=centre)
+    row(["other", "line"], 1, comparison("differ", [refused], choices=2, best=second, merged=merged))
+    both = difference(one, sheet_line("8F WORD +16 16"), "differ", taken="first", other="as good")
+    row(["line", "others"], 1, comparison("differ", [both], choices=2, best=first, rivals=[second], why="other choice"))
+    ran = subprocess.run([run.program, *told, "other", "left"], cwd=run.folder, capture_output=True, check=False)
+    said = json.loads(ran.stdout)
+    tried = said.pop("tried")
+    neither = difference(other, sheet_line("8C WORD +16 16"), "differ")
+    stop = {"choice": first, "refused": centre}
+    repair = {"tried": 0, "sheet": None, "ahead": True, "settled": True}
+    wanted = comparison("differ", [neither], choices=2, furthest=stop, best_repair=repair, merged=merged)
+    wanted.pop("tried")
+    run.expect(f"one more change: {said}", ran.returncode == 1 and said == wanted)
+    keys = ("at", "line", "slip", "replaces", "lines")
+    moved = ["on", 1, "one square off", [1], [">A: AADEORW 8E WORD +16 16"]]
+    run.expect(f"the choices with one more change: {tried}", tried[0]["choice"] == first and [tried[0]["repair"][key] for key in keys] == moved)
+    run.expect("both choices are tried", [it["choice"] for it in tried] == [first, second])
+    racks_in_json(run)
+    run.row(["compare", "--json", "digit", "word.gad", "line", "line"], 3, refusal("bad word list", 2, {"name": "BadLetter"}))
+    run.row(["compare", "--json", "at", "extra.gad", "line", "line"], 3, refusal("bad lexicon", fault={"name": "Extra", "path": "A"}))
+    for sheets in (["third", "line"], ["line", "third"]):
+        run.row([*told, *sheets], 3, refusal("bad record", 3, {"name": "ThirdPlayer"}))
+    for sheets in (["nothing", "line"], ["line", "nothing"]):
+        run.row([*told, *sheets], 3, '{"verdict":"no game","line":null,"fault":null,"unread_lines":[]}\n')
+    run.row([*told, "line", "nowhere"], 4, refusal("cannot open", file="nowhere"), error="referee: cannot open nowhere: no such file")
+    run.row([*told, "--merged", "out", "line", "line"], 64, error=None)
+
+
+def racks_in_json(run):
+    """Racks and scores that differ in the object of `compare`, on sheets of which each has its own player first."""
+
+    def told(*sheets):
+        words = [run.program, "compare", "--json", "word-at-ra", "word-at-ra.gad", *sheets]
+        return json.loads(subprocess.run(words, cwd=run.folder, capture_output=True, check=False).stdout)
+
+    one, other = sheet_line("8E WORD +16 16", line=3), sheet_line("8E WORD +16 16", line=3, rack="ADEEORW")
+    said = told("ann", "racks")
+    run.expect(f"racks of the own sheet: {said}", said["differences"] == [difference(one, other, "agree", racks="own", own_sheet="first")])
+    run.expect("a choice of racks", said["choices"] == 2 and said["best"]["choice"] == {"lines": [], "racks": ["own"]} and said["verdict"] == "differ")
+    run.expect("the players of the first sheet", said["players"] == [{"nick": "A", "name": "Ann Lee"}, {"nick": "B", "name": "Ben Ray"}])
+    said = told("own-wrong", "ben-whole")
+    wrong = sheet_line("8E WORD +16 16", line=3, rack="AADEORX")
+    racks = difference(wrong, one, "agree", racks="other", own_sheet="first", own_rack="no deal")
+    run.expect(f"racks of the other sheet: {said}", said["differences"] == [racks] and said["best"]["choice"] == {"lines": [], "racks": ["other"]})
+    # The rack of the other sheet costs 1, and DT, which is not in the list, 3.
+    run.expect("what a rack of the other sheet costs", [said["best"][key] for key in ("cost", "unlisted")] == [4, 1])
+    said = told("ann", "totals")
+    scores = [sheet_line(f"9G AT +{score} {score}", line=4, player=2, nick="B", rack="AT") for score in (9, 19)]
+    run.expect(f"scores that differ: {said}", said["differences"] == [difference(*scores, "other scores", right=9)])
+    run.expect("last totals", said["totals"][1] == {"player": 2, "first": 9, "second": 19, "right": 9})
+    run.expect("who is ahead", [said[key] for key in ("ahead", "ahead_by_second")] == [{"player": 1, "by": 7}, {"player": 2, "by": 3}])
 
 
 def sheets_of_two(run):

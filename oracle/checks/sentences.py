@@ -101,7 +101,7 @@ def explained(program, game, words, rules=ENGLISH):
         inputs = {"words": "\n".join(words.split()).encode(), "lexicon": build(set(words.split())), "game": game.encode(), "rules": text_of(rules)}
         for name, data in inputs.items():
             Path(folder, name).write_bytes(data)
-        ran = subprocess.run([program, "explain", "--rules", "rules", "words", "lexicon", "game"], cwd=folder, capture_output=True, check=False, timeout=60)
+        ran = subprocess.run([program, "explain", "--rules", "rules", "words", "lexicon", "game"], cwd=folder, capture_output=True, check=False, timeout=600)
         return ran.stdout.decode()
 
 

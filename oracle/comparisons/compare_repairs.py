@@ -3,7 +3,8 @@
 The worked records are those of `repair_rows`: the first repair has to be the known one, with its cost, its line and what stands there then. Then as
 many games that were dealt for real have one slip of the pen, and the second judge lists the repairs: those that are told have to be the same, with the
 same costs, as far as both tell them. Each third game has two slips, and the pairs of changes are compared. Of as many short games with few tiles
-all that is told has to be the same, in the same order. Of a record with more changes than are tried it has to be told which are not. A record is passed over if the rule of completion, which is all that the second judge has, leaves
+all that is told has to be the same, in the same order, and so has the object of `repair --json` of each record of which all is known. Of a record with more
+changes than are tried it has to be told which are not. A record is passed over if the rule of completion, which is all that the second judge has, leaves
 open whether a deal fits with some change.
 """
 import json
@@ -14,13 +15,13 @@ from dataclasses import replace
 from math import inf
 
 import web
-from chains import TWO_NUMBERS, chain
 from comparing import Differences, compared, without_amount
 from compare_changes import line_of
 from deals import events_of
 from game_pages import board_read, pictured
 from lexicons import build
 from pairs import pairs
+from repair_objects import chain_wanted, repaired_objects
 from repair_rows import CHAINS, LINES, NONE, PHONIES, ROWS, TWO, puts
 from repair_figures import SLIPS, STYLES, TURNS, some_sheet, with_two_slips
 from repair_texts import amount_repair, chain_text, choice, likely_repair, likely_sheet, pairs_text, repair_text, sheet_text, suggested_text, with_numbers
@@ -133,6 +134,17 @@ def texts(differences, rules, listed, text, name):
     wanted = repair_text(events, listed, rules, nicks, game=text.encode())
     told = "".join(line + "\n" for line in told.split("\n")[:-1] if not line.endswith("but no deal was found"))
     differences.expect(told == wanted, name, text, told, "second judge", wanted)
+    whole_object(differences, name, text)
+
+
+def whole_object(differences, name, text):
+    """Compares the object of a record, if the second judge knows all of it."""
+    words, lexicon, game, by = ((differences.folder / it).read_bytes() for it in ("words", "lexicon", "game", "rules"))
+    wanted = [it.told for it in repaired_objects(words, lexicon, game, by, most_events=inf) if it.is_whole]
+    if wanted:
+        told = json.loads(differences.run("repair", "--json", "--rules", "rules", "words", "lexicon", "game").stdout)
+        differences.seen["whole objects"] += 1
+        differences.expect(told in wanted and list(told) == list(wanted[0]), name, text, told, "second judge", wanted[0])
 
 
 def known_pairs(differences, rules, listed, events):
@@ -289,22 +301,9 @@ def two_slips(differences):
     differences.expect(few[0] == few[1], "two slips", text, f"program {few[0][:5]}", f"second judge {few[1][:5]}")
 
 
-def chain_wanted(events, listed, rules=ENGLISH):
-    """The chain that is told of a record, or None; and whether the second judge knows of all changes whether a deal fits."""
-    singles, (two, known), alone = repairs(events, listed, rules), pairs(events, listed, rules), with_numbers(events, listed, rules)
-    sheets = of_text("".join(map(line_of, events)).encode(), listed, rules)
-    least = min((it.cost for it in [*[it for it in singles if it.dealt], *two, *sheets, *([alone] if alone else [])]), default=inf)
-    if not known or not all(it.dealt for it in singles):
-        return None, False
-    if least <= TWO_NUMBERS:
-        return None, True
-    found, known = chain(events, listed, rules)
-    return found if found and found.cost < least else None, known
-
-
 def chained(differences, rules, listed, events, text, nicks):
     """Compares what is told of several changes."""
-    found, known = chain_wanted(events, listed, rules)
+    found, known = chain_wanted(events, listed, rules, "".join(map(line_of, events)).encode())
     if not known:
         return
     said = differences.run("repair", "--rules", "rules", "words", "lexicon", "game").stdout.decode()

@@ -5,14 +5,19 @@ Where both write every rack, and some of them not as they were, all choices of t
 with the fewest racks that are not from the player's own sheet.
 A merged record has to be a game by the second judge, if that does not leave open whether a deal fits, of lines that are on the sheets; where no choice of
 them makes a game, one event of it may be on neither. What is said of last totals and of who won has to follow
-from it. The last line says how often the merged record is the true one, and how often it was repaired.
+from it. The object of `compare --json` has to say the same: its lines are made by `comparison_texts.py` and compared with those of the program. Where the
+second judge knows the object (`comparisons.py`), it has to be that one.
+The last line says how often the merged record is the true one, and how often it was repaired.
 """
+import json
 import random
 from dataclasses import replace
 from itertools import combinations
 
 from answers import lines_of
 from comparing import Differences, compared
+from comparison_texts import STATUSES, agrees_with_itself, is_text_of, text_of
+from comparisons import compared_objects
 from compare_changes import record_of, text_of_kind
 from dealing import in_order
 from deals import decide, events_of
@@ -61,7 +66,23 @@ def given(differences, listed, first, second):
     (differences.folder / "out").unlink(missing_ok=True)
     done = differences.run("compare", "--merged", "out", "words", "lexicon", "first", "second")
     there = (differences.folder / "out").exists()
-    return done, (differences.folder / "out").read_bytes().decode() if there else None
+    merged = (differences.folder / "out").read_bytes().decode() if there else None
+    compare_object(differences, done, merged)
+    return done, merged
+
+
+def compare_object(differences, done, merged):
+    """Compares the object of the same sheets with the text of a run, its status and the record that it wrote."""
+    ran = differences.run("compare", "--json", "words", "lexicon", "first", "second")
+    told, text = json.loads(ran.stdout), done.stdout.decode()
+    differences.seen[f"object: {told['verdict']}"] += 1
+    good = is_text_of(text, told, True) and agrees_with_itself(told) and told["merged"] == merged
+    good = good and ran.returncode == done.returncode == STATUSES[told["verdict"]]
+    differences.expect(good, ran.stdout.decode(), f"status {ran.returncode}", text_of(told, True), text, merged)
+    sheets = [(differences.folder / name).read_bytes() for name in ("words", "first", "second")]
+    for wanted in compared_objects(*sheets):
+        differences.seen["whole objects"] += 1
+        differences.expect(told == wanted and list(told) == list(wanted), *sheets[1:], ran.stdout.decode(), wanted)
 
 
 def last_totals(events):

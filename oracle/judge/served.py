@@ -1,10 +1,16 @@
 """What `serve` is to answer to a line, by the second judge: the id, the status of the command, and its object or its text."""
 import json
 import re
+from dataclasses import dataclass
 
-from answers import words_of
+from annotations import notes_of, with_notes
+from answers import VERDICTS, answered, lines_of, words_of
+from audits import on_line
+from comparisons import compared_objects
+from deals import settled_verdicts
 from objects import audited_objects, boarded_object, explained_objects, head, judged_objects, refused, topped_object
 from records import tidy
+from repair_objects import repaired_objects
 
 LONGEST = 4 << 20
 KEYS = {
@@ -16,8 +22,13 @@ KEYS = {
     "word": {"words"},
     "tidy": {"game"},
     "page": {"game", "likely"},
+    "repair": {"game", "number", "repaired"},
+    "compare": {"first", "second", "merged"},
+    "annotate": {"game", "number"},
 }
-STATUSES = {"ok": 0, "legal": 0, "acceptable": 0, "illegal": 1, "not acceptable": 1, "unsettled": 2}
+NEEDED = {"word": ("words",), "compare": ("first", "second")}
+TEXTS, FLAGS = ("game", "first", "second", "rack"), ("settle", "best", "corrected", "likely", "repaired", "merged")
+STATUSES = {"ok": 0, "legal": 0, "acceptable": 0, "illegal": 1, "not acceptable": 1, "unsettled": 2, "agree": 0, "differ": 1}
 
 
 class NoRequest(Exception):
@@ -95,13 +106,14 @@ def request_of(told):
 def check_members(id, do, said):
     """That each member is what it has to be."""
     numbers = {"line": (0, 2**32 - 1), "number": (1, 100)}
-    good = all(isinstance(said[key], str) for key in ("game", "rack") if key in said)
-    good &= all(isinstance(said[key], bool) for key in ("settle", "best", "corrected", "likely") if key in said)
+    good = all(isinstance(said[key], str) for key in TEXTS if key in said)
+    good &= all(isinstance(said[key], bool) for key in FLAGS if key in said)
     good &= all(isinstance(said[key], int) and is_number(said[key]) and least <= said[key] <= most for key, (least, most) in numbers.items() if key in said)
+    good &= all(key in said for key in NEEDED.get(do, ("game",)))
     if do == "word":
-        good &= isinstance(said.get("words"), list) and bool(said["words"]) and all(isinstance(it, str) for it in said["words"])
-    else:
-        good &= "game" in said and (do != "top" or "line" in said or "rack" in said)
+        good = good and isinstance(said["words"], list) and bool(said["words"]) and all(isinstance(it, str) for it in said["words"])
+    if do == "top":
+        good &= "line" in said or "rack" in said
     if not good:
         raise NoRequest(id)
 
@@ -124,7 +136,8 @@ def plain(told):
 
 
 def objects_for(words, lexicon, do, said, text):
-    """The objects that may be answered; of `tidy` and `page` only those that say why there is no text."""
+    """The objects that may be answered; of `tidy`, `page` and `annotate` only those that say why there is no text, and of `compare` none if the second judge does
+    not know it."""
     game, line = said.get("game", "").encode(), said.get("line")
     if do == "judge":
         told = judged_objects(words, lexicon, game, text, said.get("settle", False))
@@ -139,28 +152,75 @@ def objects_for(words, lexicon, do, said, text):
         return [topped_object(words, lexicon, game, said.get("rack"), text, said.get("number", 10), line)]
     if do == "word":
         return [ruled(words_of(words), said["words"])]
-    if do == "page":
+    if do in ("page", "annotate"):
         return explained_objects(words, lexicon, game, None, text)
+    if do == "repair":
+        return repaired_objects(words, lexicon, game, text, said.get("number", 10))
+    if do == "compare":
+        return compared_objects(words, said["first"].encode(), said["second"].encode(), text)
     told = tidy(game)
     return [refused(told)] if told.startswith(b"bad record") else []
 
 
-def status_of(do, told):
+def status_of(told):
     """The status that goes with an object."""
     return max(STATUSES.get(told["verdict"], 3), bool(told.get("wrong")))
 
 
-def answers_to(words, lexicon, line, text=None):
-    """The answers that a line may get, each as an object without `error` and without the text of a page; and whether it is no request."""
+@dataclass
+class Wanted:
+    """An answer without `error`, in which a text may be None: then there is some text. If it is not whole, only its keys are known, of its object too. `kept` are
+    the events of a record that is its text, if they are known."""
+
+    answer: dict
+    is_whole: bool = True
+    kept: list = None
+
+
+def annotated_ways(words, lexicon, game, number, text, printed):
+    """The statuses and the records with notes that may be answered; what was `printed` says which tiles cannot be together."""
+
+    def ways(listed, players, events, rules):
+        verdicts = [on_line(it, lines_of(game)) for it in settled_verdicts(events, listed, rules)]
+        made = [with_notes(game, notes_of(game, players, events, listed, rules, it, number, printed)) for it in verdicts]
+        return [(VERDICTS[verdict.split()[0]], told.decode("utf-8", "replace")) for verdict, told in zip(verdicts, made)] if events else []
+
+    answer = answered(words, lexicon, game, text, ways)
+    return answer if isinstance(answer, list) else []
+
+
+def repaired(id, said, told):
+    """The answer with an object of `repair`."""
+    answer = {"id": id, "status": status_of(told.told), "answer": told.told}
+    is_kept = said.get("repaired", False) and told.kept is not None
+    return Wanted(answer | ({"text": None} if is_kept else {}), told.is_whole, told.kept if is_kept else None)
+
+
+def compared(id, said, told):
+    """The answer with an object of `compare`."""
+    merged = told.get("merged") if said.get("merged", False) else None
+    return Wanted({"id": id, "status": status_of(told), "answer": told} | ({} if merged is None else {"text": merged}))
+
+
+def answers_to(words, lexicon, line, text=None, printed=""):
+    """The answers that a line may get, and whether it is a request. What was `printed` on it says which tiles of a sheet with notes cannot be together."""
     try:
         id, do, said = request_of(parsed(line))
         check_members(id, do, said)
     except NoRequest as none:
-        return [{"id": none.id, "status": 64}], False
+        return [Wanted({"id": none.id, "status": 64})], False
+    if do == "annotate":
+        ways = annotated_ways(words, lexicon, said["game"].encode(), said.get("number", 1), text, printed)
+        if ways:
+            return [Wanted({"id": id, "status": status, "text": made}) for status, made in ways], True
     told = objects_for(words, lexicon, do, said, text)
+    if do == "repair":
+        return [repaired(id, said, it) for it in told], True
+    if do == "compare":
+        return [compared(id, said, it) for it in told] or [Wanted({"id": id}, False)], True
     if do == "tidy" and not told:
-        return [{"id": id, "status": 0, "text": tidy(said["game"].encode()).decode("utf-8", "replace")}], True
-    answers = [{"id": id, "status": status_of(do, it), "answer": it} for it in told]
+        return [Wanted({"id": id, "status": 0, "text": tidy(said["game"].encode()).decode("utf-8", "replace")})], True
+    answers = [{"id": id, "status": status_of(it), "answer": it} for it in told]
     if do == "page" and "explained" in told[0]:
         answers = [{"id": id, "status": it["status"], "text": None} for it in answers]
-    return answers, True
+    return [Wanted(it) for it in answers], True

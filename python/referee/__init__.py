@@ -158,6 +158,19 @@ class Referee:
         """The page of a game, as HTML. Without `likely` it does not show the likely repair of an illegal record."""
         return self.ask("page", game=text_of(game), likely=likely).text or ""
 
+    def repair(self, game: Game, *, number: Optional[int] = None, repaired: bool = False) -> Answer:
+        """What repairs an illegal record, or a text that is not one, in ten lines, unless a number is said. Where `repaired` is asked for and one repair is to be
+        chosen, the repaired sheet is the `text` of the answer. A text that is not a record is a `BadInput`, whose `answer` has the repairs and the text."""
+        return self.ask("repair", game=text_of(game), number=number, repaired=repaired)
+
+    def compare(self, first: Game, second: Game, *, merged: bool = False) -> Answer:
+        """Compares two sheets of one game. Where `merged` is asked for and there is a merged record, that is the `text` of the answer."""
+        return self.ask("compare", first=text_of(first), second=text_of(second), merged=merged)
+
+    def annotate(self, game: Game, *, number: Optional[int] = None) -> str:
+        """A sheet with notes: after each turn its best play, or as many as are said; and after the line that is refused why it is."""
+        return self.ask("annotate", game=text_of(game), number=number).text or ""
+
     def ask(self, do: str, *, timeout: Optional[float] = None, **members: Any) -> Answer:
         """The answer to a request with these members; one that is None is left out. With `timeout` that many seconds count for this request."""
         with self._lock:

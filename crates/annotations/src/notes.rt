@@ -1,11 +1,11 @@
 //! The note of an event, in one line.
 
+use crate::sheets::EventNote;
 use decimal_text::push_number;
 use event_notes::{BestPlay, SpelledWord, TurnBest};
 use game_answers::ScoredPlay;
 use gcg_write::play_text;
 use ref_play::Notation;
-use score_sheets::SheetRow;
 use std::alloc::AllocError;
 
 /// Appends a play and its score.
@@ -83,18 +83,14 @@ fn push_unlisted(
 }
 
 /// Appends the note of an event, which may be empty: its best play, the next best ones, and its words that are not in the list.
-pub fn push_note(
-    notes: &mut Vec<u8>,
-    row: &SheetRow,
-    next: &[ScoredPlay],
-) -> Result<(), AllocError> {
-    let start = notes.len();
-    if let Some(best) = &row.best {
-        push_turn(notes, best)?;
+pub fn push_note(text: &mut Vec<u8>, note: &EventNote) -> Result<(), AllocError> {
+    let start = text.len();
+    if let Some(best) = &note.best {
+        push_turn(text, best)?;
     }
-    push_next(notes, next)?;
-    let is_first = notes.len() == start;
-    push_unlisted(notes, row.unlisted.as_slice(), is_first)
+    push_next(text, note.next.as_slice())?;
+    let is_first = text.len() == start;
+    push_unlisted(text, note.unlisted.as_slice(), is_first)
 }
 
 /// Appends sentences, each of which has a line, as one line.

@@ -38,7 +38,7 @@ impl FaultObject {
             None => None,
         };
         Ok(FaultObject {
-            name: named.name,
+            name: named.name.text(),
             expected: named.expected,
             tile,
             path: None,

@@ -11,12 +11,13 @@ use command_files::{has_page, unopened, write_whole_file};
 use devices::FromRead;
 use exit_statuses::Trouble;
 use game_case::{Case, open_case};
-use game_page::{Contents, Index, IndexPlayer, IndexRow, Maker, push_page, shown_of};
+use game_page::{Index, IndexPlayer, IndexRow};
 use lex_check::Checked;
 use lost_inputs::RunInputs;
+use page_answers::{Maker, paged_case};
 use page_names::push_page_name;
 use page_pieces::PageText;
-use page_words::sentences_of;
+use page_words::push_paged;
 use ref_tiles::Rules;
 use repair_answers::Likely;
 use std::alloc::{AllocError, Global};
@@ -91,7 +92,7 @@ impl<'a> Pages<'a> {
         let Ok(mut fields) = fields_in(rt.alloc(), repairs, name, &case, likely.as_ref()) else {
             return Fields::unread(name, Unread::NoMemory);
         };
-        fields.page = match self.write_page(rt, rules, pair, name, &case, likely.as_ref()) {
+        fields.page = match self.write_page(rt, rules, pair, name, case, likely) {
             Ok(page) => Some(page),
             Err(_) => Some(PageField::NoMemory),
         };
@@ -105,36 +106,20 @@ impl<'a> Pages<'a> {
         rules: &Rules,
         pair: &Checked<'_>,
         name: &str,
-        case: &Case,
-        likely: Option<&Likely>,
+        case: Case,
+        likely: Option<Likely>,
     ) -> Result<PageField, AllocError>
-        requires { HasItsWalk rules.now (list_in pair.now) case.now }
+        requires { HasItsWalk rules.now (list_in pair.now) case }
     {
-        if !has_page(case) {
+        if !has_page(&case) {
             return Ok(PageField::Missing);
         }
         let alloc = rt.alloc();
         self.page.clear();
         let file = page_of(alloc, name)?;
-        let contents = Contents {
-            rules,
-            pair,
-            case,
-            likely: likely.and_then(|likely| likely.as_change()),
-            up: Some(folders_of(file.as_str())),
-            maker: &self.maker,
-        };
-        if let Some(shown) = shown_of(alloc, &contents)? {
-            let explanation = shown.explanation.as_ref();
-            let said = sentences_of(alloc, rules, pair, case, explanation, likely)?;
-            push_page(
-                &mut self.page,
-                &shown,
-                said.reason.as_slice(),
-                said.likely.as_slice(),
-                said.lead.as_slice(),
-            )?;
-        }
+        let up = Some(folders_of(file.as_str()));
+        let paged = paged_case(alloc, rules, pair, case, likely, &self.maker)?;
+        push_paged(alloc, &mut self.page, &paged, up)?;
         let path = path_in(alloc, self.folder, file.as_str())?;
         if self.is_input(rt, name, path.as_str()) {
             return Ok(PageField::CannotWrite);

@@ -72,8 +72,8 @@ fn full_of(
 /// The title of a record, if it says one.
 fn title_of(alloc: Global, text: &[u8], encoding: Encoding) -> Result<Option<String>, AllocError> {
     let said = words_of(alloc, text)?;
-    match said.title {
-        Some(title) => Ok(Some(encoding.text_of(alloc, title)?)),
+    match &said.title {
+        Some(title) => Ok(Some(encoding.text_of(alloc, title.as_slice())?)),
         None => Ok(None),
     }
 }

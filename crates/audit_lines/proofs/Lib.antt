@@ -1,3 +1,4 @@
 pub mod ReadBack
 pub mod ToldNumbers
 pub mod Answering
+pub mod WrongAudits

@@ -4,3 +4,4 @@ pub mod Told
 pub mod Numbers
 pub mod Lines
 pub mod Answers
+pub mod Wrong

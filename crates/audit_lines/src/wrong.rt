@@ -1,41 +1,69 @@
 //! The audit of a sheet with a wrong number, for what is said of the sheet as a whole.
-ghost use Rattle.std.specs.Prelude.{◌++◌, ◌≡◌, OnOk};
+ghost use Rattle.std.specs.Prelude.{◌++◌, ◌≡◌, ◌≤◌, ℕ, List, IfOk, OnOk, length};
+ghost use Rattle.gcg_read.specs.Records.{most_bytes};
+ghost use Rattle.lex_check.specs.Pairs.{list_in};
+ghost use Rattle.game_case.specs.Explaining.{IsCaseOf};
 ghost use Rattle.audit_lines.specs.Lines.{lead_text};
+ghost use Rattle.game_case.specs.Auditing.{IsAuditOf};
+ghost use Rattle.audit_lines.specs.Wrong.{if_any, if_wrong, IsAuditOfWrong, IsWrongAuditOf};
 
 use crate::leads::push_lead;
+use call_stages::Decision;
 use devices::FromRead;
 use game_case::{Audit, Case, Finding, audit_sheet};
 use lex_check::Checked;
 use ref_tiles::Rules;
 use std::alloc::{AllocError, Global};
 
-/// Whether a case is illegal.
-fn is_illegal(case: &Case) -> bool {
-    match &case.read {
-        Ok(entry) => matches!(entry.finding, Finding::Illegal { .. }),
-        Err(_) => false,
+/// The audit of bytes, or the verdict that they are not a record.
+fn audited(
+    alloc: Global,
+    rules: &Rules,
+    pair: &Checked<'_>,
+    sheet: &[u8],
+) -> Result<Result<Audit, Decision>, AllocError>
+    ensures { IfOk result (λ found. length sheet.now ≤ most_bytes → IsAuditOf rules.now (list_in pair.now) sheet.now found) }
+{
+    let mut input = FromRead::new(sheet);
+    match audit_sheet(alloc, rules, pair, &mut input) {
+        Ok(audit) => Ok(audit),
+        Err(_) => Err(AllocError),
+    }
+}
+
+/// An audit, if a number is wrong.
+fn if_any(audit: Audit) -> Option<Audit>
+    ensures { result ≡ if_any audit }
+{
+    if audit.wrong.as_slice().is_empty() {
+        None
+    } else {
+        Some(audit)
+    }
+}
+
+/// The audit of a record, if a number of it is wrong.
+fn if_wrong(audited: Result<Audit, Decision>) -> Option<Audit>
+    ensures { result ≡ if_wrong audited }
+{
+    match audited {
+        Ok(audit) => if_any(audit),
+        Err(_) => None,
     }
 }
 
 /// The audit of bytes, if they are a record and a number of it is wrong.
+#[tactic(auto, using(crate::proofs::WrongAudits::if_of_sheet))]
 fn audit_of(
     alloc: Global,
     rules: &Rules,
     pair: &Checked<'_>,
     sheet: &[u8],
-) -> Result<Option<Audit>, AllocError> {
-    let mut input = FromRead::new(sheet);
-    match audit_sheet(alloc, rules, pair, &mut input) {
-        Ok(Ok(audit)) => {
-            if audit.wrong.is_empty() {
-                Ok(None)
-            } else {
-                Ok(Some(audit))
-            }
-        }
-        Ok(Err(_)) => Ok(None),
-        Err(_) => Err(AllocError),
-    }
+) -> Result<Option<Audit>, AllocError>
+    ensures { IfOk result (λ found. length sheet.now ≤ most_bytes → IsAuditOfWrong rules.now (list_in pair.now) sheet.now found) }
+{
+    let found = audited(alloc, rules, pair, sheet)?;
+    Ok(if_wrong(found))
 }
 
 /// The audit of the sheet of a case, if a number of it is wrong; then the case is illegal.
@@ -46,11 +74,19 @@ pub fn audit_of_wrong(
     rules: &Rules,
     pair: &Checked<'_>,
     case: &Case,
-) -> Result<Option<Audit>, AllocError> {
-    if is_illegal(case) {
-        audit_of(alloc, rules, pair, case.text.as_slice())
-    } else {
-        Ok(None)
+) -> Result<Option<Audit>, AllocError>
+    ensures { IfOk result (λ found. (text : List ℕ) → IsCaseOf rules.now (list_in pair.now) text case.now
+        → IsWrongAuditOf rules.now (list_in pair.now) text case.now.read found) }
+{
+    let Ok(entry) = &case.read else {
+        return Ok(None);
+    };
+    match &entry.finding {
+        Finding::Illegal { .. } => {
+            let audit = audit_of(alloc, rules, pair, case.text.as_slice())?;
+            Ok(audit)
+        }
+        Finding::NoGame | Finding::Legal { .. } | Finding::Unsettled => Ok(None),
     }
 }
 

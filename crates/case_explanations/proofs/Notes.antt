@@ -6,6 +6,7 @@ use Rattle.game_turns.specs.Places.{AreAllowed}
 use Rattle.game_case.specs.declared.findings.Finding.TheVariants as finding
 use Rattle.event_facts.specs.declared.facts.Fact.{Fact}
 use Rattle.event_facts.specs.declared.facts.Fact.TheVariants as fact
+use Rattle.event_facts.specs.declared.facts.games.GameFact.TheVariants as game_fact
 use Rattle.event_facts.specs.Wholes.{AddsNotes}
 use Rattle.call_stages.specs.declared.verdicts.GameFault.{GameFault}
 use Rattle.case_explanations.specs.Explaining.{GoOnWithNotes, AreWholeFacts}
@@ -17,15 +18,15 @@ noted rules list events old new added = record { notes = added.notes; behind = a
 pub refused : (rules : Rules) (list : List (List ℕ)) (events : List Event) (facts : List Fact) → (AreAllowed rules list events → ⊥) → GoOnWithNotes rules list events facts facts
 refused rules list events facts none = record { notes = []; behind = sym (append-nil facts); are = λ allowed. absurd (none allowed) }
 
-pub legal : (rules : Rules) (list : List (List ℕ)) (events : List Event) (complete : Bool) (facts : List Fact) → GoOnWithNotes rules list events (fact.Legal ∷ []) facts
+pub legal : (rules : Rules) (list : List (List ℕ)) (events : List Event) (complete : Bool) (facts : List Fact) → GoOnWithNotes rules list events (fact.Game game_fact.Legal ∷ []) facts
     → AreWholeFacts rules list events (finding.Legal complete) facts
 legal rules list events complete facts more = record { notes = more.notes; behind = more.behind; told = more.are }
 
-pub unsettled : (rules : Rules) (list : List (List ℕ)) (events : List Event) (facts : List Fact) → GoOnWithNotes rules list events (fact.Unsettled ∷ []) facts
+pub unsettled : (rules : Rules) (list : List (List ℕ)) (events : List Event) (facts : List Fact) → GoOnWithNotes rules list events (fact.Game game_fact.Unsettled ∷ []) facts
     → AreWholeFacts rules list events finding.Unsettled facts
 unsettled rules list events facts more = record { notes = more.notes; behind = more.behind; told = more.are }
 
-pub no_game : (rules : Rules) (list : List (List ℕ)) (events : List Event) (facts : List Fact) → facts ≡ fact.NoEvent ∷ [] → AreWholeFacts rules list events finding.NoGame facts
+pub no_game : (rules : Rules) (list : List (List ℕ)) (events : List Event) (facts : List Fact) → facts ≡ fact.Game game_fact.NoEvent ∷ [] → AreWholeFacts rules list events finding.NoGame facts
 no_game rules list events facts is = record { notes = []; behind = is; told = refl }
 
 pub illegal : (rules : Rules) (list : List (List ℕ)) (events : List Event) (line : ℕ) (why : GameFault) (facts : List Fact) → facts ≡ [] → AreWholeFacts rules list events (finding.Illegal line why) facts

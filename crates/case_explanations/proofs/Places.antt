@@ -10,7 +10,7 @@ use Rattle.game_case.specs.declared.findings.Finding.{Finding}
 use Rattle.game_case.specs.declared.findings.Finding.TheVariants as finding
 use Rattle.explanations.specs.declared.explaining.Explanation.{Explanation}
 use Rattle.explanations.specs.Explaining.{ExplainsEvent}
-use Rattle.case_explanations.specs.Explaining.{AreWholeFacts, Explains, IsExplanationAt}
+use Rattle.case_explanations.specs.Explaining.{AreWholeFacts, ExplainsAt, IsExplanationAt}
 
 -- the place of an event is within the record
 pub line_within : (events : List Event) (line place : ℕ) → place_of_line events line ≡ Some place → place < length events
@@ -25,20 +25,20 @@ fault_within events finding.Unsettled place is = cc
 
 -- ---- what explains it
 
-pub explains_whole : (rules : Rules) (list : List (List ℕ)) (entry : Entry) (asked : Option ℕ) (x : Explanation) → asked ≡ None → x.players.now ≡ entry.record.players → x.line ≡ None
-    → AreWholeFacts rules list entry.record.events entry.finding x.facts.items → x.picture ≡ None → Explains rules list entry asked x
-explains_whole rules list entry asked x none players line facts picture =
-    subst (λ (a : Option ℕ). Explains rules list entry a x) (sym none) (record { players = players; told = (line, facts, picture) })
+pub explains_whole : (rules : Rules) (list : List (List ℕ)) (entry : Entry) (asked : Option ℕ) (x : Explanation) → asked ≡ None → x.line ≡ None
+    → AreWholeFacts rules list entry.record.events entry.finding x.facts.items → x.picture ≡ None → ExplainsAt rules list entry asked x
+explains_whole rules list entry asked x none line facts picture =
+    subst (λ (a : Option ℕ). ExplainsAt rules list entry a x) (sym none) (line, facts, picture)
 
-pub explains_at : (rules : Rules) (list : List (List ℕ)) (entry : Entry) (asked : Option ℕ) (place : ℕ) (x : Explanation) → asked ≡ Some place → x.players.now ≡ entry.record.players
-    → ExplainsEvent rules list entry.record.events place x → Explains rules list entry asked x
-explains_at rules list entry asked place x some players told =
-    subst (λ (a : Option ℕ). Explains rules list entry a x) (sym some) (record { players = players; told = told })
+pub explains_at : (rules : Rules) (list : List (List ℕ)) (entry : Entry) (asked : Option ℕ) (place : ℕ) (x : Explanation) → asked ≡ Some place
+    → ExplainsEvent rules list entry.record.events place x → ExplainsAt rules list entry asked x
+explains_at rules list entry asked place x some told =
+    subst (λ (a : Option ℕ). ExplainsAt rules list entry a x) (sym some) told
 
 pub asked_none : (rules : Rules) (list : List (List ℕ)) (entry : Entry) (asked : Option ℕ) → asked ≡ None → IsExplanationAt rules list entry asked None
 asked_none rules list entry asked none = none
 
-pub asked_some : (rules : Rules) (list : List (List ℕ)) (entry : Entry) (asked : Option ℕ) (place : ℕ) (x : Explanation) → asked ≡ Some place → x.players.now ≡ entry.record.players
+pub asked_some : (rules : Rules) (list : List (List ℕ)) (entry : Entry) (asked : Option ℕ) (place : ℕ) (x : Explanation) → asked ≡ Some place
     → ExplainsEvent rules list entry.record.events place x → IsExplanationAt rules list entry asked (Some x)
-asked_some rules list entry asked place x some players told =
-    subst (λ (a : Option ℕ). IsExplanationAt rules list entry a (Some x)) (sym some) (record { players = players; told = told })
+asked_some rules list entry asked place x some told =
+    subst (λ (a : Option ℕ). IsExplanationAt rules list entry a (Some x)) (sym some) told

@@ -10,16 +10,17 @@ use Rattle.game_case.specs.declared.findings.Finding.{Finding}
 use Rattle.game_case.specs.declared.findings.Finding.TheVariants as finding
 use Rattle.event_facts.specs.declared.facts.Fact.{Fact}
 use Rattle.event_facts.specs.declared.facts.Fact.TheVariants as fact
+use Rattle.event_facts.specs.declared.facts.games.GameFact.TheVariants as game_fact
 use Rattle.event_facts.specs.Wholes.{AreNotes}
 use Rattle.explanations.specs.declared.explaining.Explanation.{Explanation}
 use Rattle.explanations.specs.Explaining.{ExplainsEvent}
 
 -- what is found of a record as a whole
 abbrev pub whole_facts : Finding → List Fact
-whole_facts finding.NoGame = fact.NoEvent ∷ []
-whole_facts (finding.Legal complete) = fact.Legal ∷ []
+whole_facts finding.NoGame = fact.Game game_fact.NoEvent ∷ []
+whole_facts (finding.Legal complete) = fact.Game game_fact.Legal ∷ []
 whole_facts (finding.Illegal line why) = []
-whole_facts finding.Unsettled = fact.Unsettled ∷ []
+whole_facts finding.Unsettled = fact.Game game_fact.Unsettled ∷ []
 
 -- after it, for a record whose events the rules allow: its plays that stand with words that are not in the list, its turns that show no rack or a part
 -- of it, the last rack that it lacks, and whether the list may be another one
@@ -46,20 +47,15 @@ abbrev pub ExplainsAt : Rules → (list : List (List ℕ)) → Entry → Option 
 ExplainsAt rules list entry None x = (x.line ≡ None) × AreWholeFacts rules list entry.record.events entry.finding x.facts.items × (x.picture ≡ None)
 ExplainsAt rules list entry (Some place) x = ExplainsEvent rules list entry.record.events place x
 
--- by the players of the record
-pub record Explains (rules : Rules) (list : List (List ℕ)) (entry : Entry) (place : Option ℕ) (x : Explanation) : Type 0 where
-  pub players : x.players.now ≡ entry.record.players
-  pub told : ExplainsAt rules list entry place x
-
 -- what is explained of an event on a line or after it; none if there is no event
 abbrev pub IsExplanationAt : Rules → (list : List (List ℕ)) → Entry → (place : Option ℕ) → Option Explanation → Type 0
 IsExplanationAt rules list entry place None = place ≡ None
 IsExplanationAt rules list entry None (Some x) = ⊥
-IsExplanationAt rules list entry (Some place) (Some x) = Explains rules list entry (Some place) x
+IsExplanationAt rules list entry (Some place) (Some x) = ExplainsAt rules list entry (Some place) x
 
 -- What explains an entry: without a line the event that is not allowed, or the record as a whole; with one the first event on it or after it,
 -- or that there is none.
 abbrev pub IsExplanation : Rules → (list : List (List ℕ)) → Entry → (line : Option ℕ) → Option Explanation → Type 0
 IsExplanation rules list entry None None = ⊥
-IsExplanation rules list entry None (Some x) = Explains rules list entry (place_of_fault entry.record.events entry.finding) x
+IsExplanation rules list entry None (Some x) = ExplainsAt rules list entry (place_of_fault entry.record.events entry.finding) x
 IsExplanation rules list entry (Some line) x = IsExplanationAt rules list entry (place_of_line entry.record.events line) x

@@ -2,11 +2,12 @@
 ghost use Rattle.std.specs.Prelude.{◌≡◌, ◌<◌, ◌∷◌, [], None, IfOk, OnOk, length};
 ghost use Rattle.game_rows.specs.Walks.{IsWalkOf};
 ghost use Rattle.explanations.specs.Explaining.{ExplainsEvent};
+ghost use Rattle.event_facts.specs.declared.facts.Fact.TheVariants as fact;
 ghost use Rattle.case_explanations.specs.Explaining.{GoOnWithNotes, AreWholeFacts, IsExplanation};
 
 use call_stages::GameFault;
 use case_openings::place_of_fault;
-use event_facts::{Fact, push_notes};
+use event_facts::{Fact, GameFact, push_notes};
 use explanations::{Explanation, explain_event, passed_by};
 use game_board::place_of_line;
 use game_case::{Entry, Finding};
@@ -16,12 +17,12 @@ use lex_list::WordList;
 use ref_tiles::Rules;
 use std::alloc::{AllocError, Global};
 
-/// The list of one fact.
-fn one_fact(alloc: Global, fact: Fact) -> Result<Vec<Fact>, AllocError>
-    ensures { IfOk result (λ facts. facts.items ≡ fact ∷ []) }
+/// The list of one fact about a record as a whole.
+fn one_fact(alloc: Global, said: GameFact) -> Result<Vec<Fact>, AllocError>
+    ensures { IfOk result (λ facts. facts.items ≡ fact.Game said ∷ []) }
 {
     let mut facts = Vec::new(alloc);
-    facts.push(fact)?;
+    facts.push(Fact::Game(said))?;
     Ok(facts)
 }
 
@@ -45,19 +46,19 @@ fn push_all_notes(
     }
 }
 
-/// A fact, and what is noted of a record whose events the rules allow.
+/// A fact about a record as a whole, and what is noted of a record whose events the rules allow.
 fn noted(
     alloc: Global,
     rules: &Rules,
     list: &WordList,
     record: &Record,
     walk: &Walk,
-    fact: Fact,
+    said: GameFact,
 ) -> Result<Vec<Fact>, AllocError>
     requires { IsWalkOf rules.now list.now record.now.events walk.now }
-    ensures { IfOk result (λ facts. GoOnWithNotes rules.now list.now record.now.events (fact ∷ []) facts.items) }
+    ensures { IfOk result (λ facts. GoOnWithNotes rules.now list.now record.now.events (fact.Game said ∷ []) facts.items) }
 {
-    let mut facts = one_fact(alloc, fact)?;
+    let mut facts = one_fact(alloc, said)?;
     push_all_notes(alloc, &mut facts, rules, list, record, walk)?;
     Ok(facts)
 }
@@ -76,9 +77,9 @@ fn whole_facts(
     ensures { IfOk result (λ facts. AreWholeFacts rules.now list.now record.now.events finding.now facts.items) }
 {
     match finding {
-        Finding::NoGame => one_fact(alloc, Fact::NoEvent),
-        Finding::Legal { .. } => noted(alloc, rules, list, record, walk, Fact::Legal),
-        Finding::Unsettled => noted(alloc, rules, list, record, walk, Fact::Unsettled),
+        Finding::NoGame => one_fact(alloc, GameFact::NoEvent),
+        Finding::Legal { .. } => noted(alloc, rules, list, record, walk, GameFact::Legal),
+        Finding::Unsettled => noted(alloc, rules, list, record, walk, GameFact::Unsettled),
         Finding::Illegal { .. } => Ok(Vec::new(alloc)),
     }
 }
@@ -92,22 +93,20 @@ fn fault_on(finding: &Finding, line: u32) -> Option<&GameFault> {
 }
 
 /// What explains a record as a whole.
-fn whole<'a>(
+fn whole(
     alloc: Global,
     rules: &Rules,
     list: &WordList,
-    entry: &'a Entry,
+    entry: &Entry,
     walk: &Walk,
-) -> Result<Explanation<'a>, AllocError>
+) -> Result<Explanation, AllocError>
     requires { IsWalkOf rules.now list.now entry.now.record.events walk.now }
-    ensures players { IfOk result (λ x. x.players.now ≡ entry.now.record.players) }
     ensures line { IfOk result (λ x. x.line ≡ None) }
     ensures facts { IfOk result (λ x. AreWholeFacts rules.now list.now entry.now.record.events entry.now.finding x.facts.items) }
     ensures picture { IfOk result (λ x. x.picture ≡ None) }
 {
     let facts = whole_facts(alloc, rules, list, &entry.record, walk, &entry.finding)?;
     Ok(Explanation {
-        players: &entry.record.players,
         line: None,
         facts,
         picture: None,
@@ -115,18 +114,17 @@ fn whole<'a>(
 }
 
 /// What explains the event at a place.
-fn explained<'a>(
+fn explained(
     alloc: Global,
     rules: &Rules,
     list: &WordList,
-    entry: &'a Entry,
+    entry: &Entry,
     walk: &Walk,
     place: usize,
-) -> Result<Explanation<'a>, AllocError>
+) -> Result<Explanation, AllocError>
     requires walk { IsWalkOf rules.now list.now entry.now.record.events walk.now }
     requires within { place < length entry.now.record.events }
-    ensures players { IfOk result (λ x. x.players.now ≡ entry.now.record.players) }
-    ensures explains { IfOk result (ExplainsEvent rules.now list.now entry.now.record.events place) }
+    ensures { IfOk result (ExplainsEvent rules.now list.now entry.now.record.events place) }
 {
     let line = entry.record.events.as_slice()[place].line;
     let fault = fault_on(&entry.finding, line);
@@ -137,14 +135,14 @@ fn explained<'a>(
 ///
 /// It fails only if memory runs out.
 #[tactic(auto, using(crate::proofs::Places::fault_within, crate::proofs::Places::explains_whole, crate::proofs::Places::explains_at, crate::proofs::Places::asked_none, crate::proofs::Places::asked_some))]
-pub fn explain<'a>(
+pub fn explain(
     alloc: Global,
     rules: &Rules,
     list: &WordList,
-    entry: &'a Entry,
+    entry: &Entry,
     walk: &Walk,
     line: Option<u32>,
-) -> Result<Option<Explanation<'a>>, AllocError>
+) -> Result<Option<Explanation>, AllocError>
     requires { IsWalkOf rules.now list.now entry.now.record.events walk.now }
     ensures { IfOk result (IsExplanation rules.now list.now entry.now line) }
 {

@@ -1,6 +1,4 @@
-//! What explains the case of a record, or one of its lines, as a JSON object for programs.
-//!
-//! [`case_text`] has `case_explanations` make the explanation and `explanation_json` its object. If the text is not a record, the object says so.
+//! What explains the case of a record, or one of its lines, as a JSON object for programs. If the text is not a record, the object says so.
 #![tactic(auto)]
 
 mod objects;

@@ -1,25 +1,19 @@
 //! The object of what explains a case.
-ghost use Rattle.game_rows.specs.Walks.{IsWalkOf};
-ghost use Rattle.game_case.specs.Explaining.{HasItsWalk};
 
 use answer_json::push_bad_record;
-use case_explanations::explain;
 use explanation_json::{push_explained, push_no_game};
 use explanations::Explanation;
 use game_case::{Case, Entry, Finding, case_verdict};
 use game_facts::line_of;
-use game_rows::Walk;
 use gcg_read::Record;
-use lex_list::WordList;
-use ref_tiles::Rules;
 use repair_answers::Likely;
 use repair_json::{RepairObject, single_object, whole_object};
 use std::alloc::{AllocError, Global};
 use unread_lines::unread_lines;
 
 /// The line that is explained, as it is in the file.
-fn written_of<'t>(bytes: &'t [u8], told: &Option<Explanation<'_>>) -> Option<&'t [u8]> {
-    match told {
+fn written_of<'t>(bytes: &'t [u8], explanation: Option<&Explanation>) -> Option<&'t [u8]> {
+    match explanation {
         Some(
             Explanation {
                 line: Some(line),
@@ -34,29 +28,23 @@ fn written_of<'t>(bytes: &'t [u8], told: &Option<Explanation<'_>>) -> Option<&'t
 fn push_entry(
     alloc: Global,
     text: &mut Vec<u8>,
-    rules: &Rules,
-    list: &WordList,
     case: &Case,
     entry: &Entry,
-    walk: &Walk,
+    explanation: Option<&Explanation>,
     likely: Option<&Likely>,
-    line: Option<u32>,
-) -> Result<(), AllocError>
-    requires { IsWalkOf rules.now list.now entry.now.record.events walk.now }
-{
+) -> Result<(), AllocError> {
     let unread = unread_lines(alloc, case.text.as_slice())?;
     if entry.finding == Finding::NoGame {
         return push_no_game(alloc, text, unread.as_slice());
     }
-    let told = explain(alloc, rules, list, entry, walk, line)?;
-    let written = written_of(case.text.as_slice(), &told);
+    let written = written_of(case.text.as_slice(), explanation);
     let likely = likely_object(alloc, &entry.record, likely)?;
     push_explained(
         alloc,
         text,
         &case_verdict(case),
         written,
-        told.as_ref(),
+        explanation,
         likely,
         unread.as_slice(),
     )
@@ -75,28 +63,21 @@ fn likely_object(
     }
 }
 
-/// The object of what explains a case, or one of its lines, with the likely repair of its record, if that is given.
+/// The object of a case with what explains it or one of its lines, and with the likely repair of its record, if that is given.
 ///
 /// # Errors
 ///
 /// It fails only if memory is refused.
 pub fn case_text(
     alloc: Global,
-    rules: &Rules,
-    list: &WordList,
     case: &Case,
+    explanation: Option<&Explanation>,
     likely: Option<&Likely>,
-    line: Option<u32>,
-) -> Result<Vec<u8>, AllocError>
-    requires { HasItsWalk rules.now list.now case.now }
-{
+) -> Result<Vec<u8>, AllocError> {
     let mut text = Vec::new(alloc);
-    match (&case.read, &case.walk) {
-        (Ok(entry), Some(walk)) => push_entry(
-            alloc, &mut text, rules, list, case, entry, walk, likely, line,
-        )?,
-        (Ok(_), None) => unreachable!(),
-        (Err(fault), _) => push_bad_record(alloc, &mut text, *fault)?,
+    match &case.read {
+        Ok(entry) => push_entry(alloc, &mut text, case, entry, explanation, likely)?,
+        Err(fault) => push_bad_record(alloc, &mut text, *fault)?,
     }
     Ok(text)
 }

@@ -18,6 +18,17 @@ pub fn is_record(alloc: Global, game: &Front) -> bool {
     }
 }
 
+/// Whether the text that was read is a record with an event.
+pub fn has_game(alloc: Global, game: &Front) -> bool {
+    match game.whole() {
+        Some(text) => match read(alloc, text) {
+            Ok(record) => !record.events.is_empty(),
+            Err(_) => false,
+        },
+        None => false,
+    }
+}
+
 /// Says why the record that was read has no game, if it has no event.
 pub fn advise_no_game<R: Runtime>(rt: &R, name: &str, game: &Front) {
     if let Some(text) = game.whole() {

@@ -12,12 +12,12 @@ mod objects;
 mod sources;
 mod telling;
 
-pub use advice::{advise_bad_record, advise_no_game, advise_unread, is_record};
+pub use advice::{advise_bad_record, advise_no_game, advise_unread, has_game, is_record};
 pub use cases::{NO_GAME, has_no_event, has_page};
 pub use files::{
-    InputFile, Outlet, STANDARD_OUTPUT, UsedOutput, end_out, given_up, open, open_out, shown_out,
-    unopened, used, used_rules, used_source, used_words, verdict_of, watched, write_out,
-    write_whole_file,
+    InputFile, Outlet, STANDARD_ERROR, STANDARD_OUTPUT, UsedOutput, end_out, given_up, open,
+    open_out, shown_out, unopened, used, used_rules, used_source, used_words, verdict_of, watched,
+    write_out, write_whole_file,
 };
 pub use folders::is_folder;
 pub use inputs::{

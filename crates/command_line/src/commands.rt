@@ -410,7 +410,7 @@ const REPAIR: CommandRow = CommandRow {
     ],
 };
 
-/// `compare [--first-field] [--skip-others] [--rules FILE] [--merged OUT] WORDS LEXICON SHEET1 SHEET2`.
+/// `compare [--first-field] [--skip-others] [--json] [--rules FILE] [--merged OUT] WORDS LEXICON SHEET1 SHEET2`.
 const COMPARE: CommandRow = CommandRow {
     name: "compare",
     about: "Compares two players' sheets of one game, and says which lines the rules support where they differ",
@@ -436,6 +436,10 @@ const COMPARE: CommandRow = CommandRow {
             "merged",
             "write the merged record to this file, if one choice of the lines is ahead of all others; - is standard output"
         ),
+        Argument {
+            against: Some("merged"),
+            ..JSON
+        },
         FIRST_FIELD_OPTION,
         SKIP_OTHERS_OPTION,
         RULES,

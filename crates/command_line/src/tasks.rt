@@ -63,9 +63,9 @@ pub enum CaseTask<'a> {
     /// To write its page to a file.
     Page(&'a str),
     /// To write it with notes, each with at most the given number of best plays, to a file.
-    Annotate(usize, &'a str),
+    Annotate(u32, &'a str),
     /// To list the repairs of its record, in at most the given number of lines, and to write the repaired sheet to a file if one is named.
-    Repair(usize, Option<&'a str>),
+    Repair(u32, Option<&'a str>),
     /// To compare it with the sheet of this name, and to write the merged record to a file if one is named.
     Compare(&'a str, Option<&'a str>),
 }
@@ -106,11 +106,11 @@ fn case_task_of<'a>(command: &str, names: &ArgMatches<'a>) -> Option<CaseTask<'a
         "explain" => Some(CaseTask::Explain(names.get_one::<u32>("LINE"))),
         "page" => Some(CaseTask::Page(names.get_str("OUT")?)),
         "annotate" => Some(CaseTask::Annotate(
-            names.get_one::<u32>("top").unwrap_or(1) as usize,
+            names.get_one::<u32>("top").unwrap_or(1),
             names.get_str("OUT").unwrap_or(STANDARD_OUTPUT_NAME),
         )),
         "repair" => Some(CaseTask::Repair(
-            names.get_one::<u32>("number").unwrap_or(FEW_REPAIRS) as usize,
+            names.get_one::<u32>("number").unwrap_or(FEW_REPAIRS),
             names.get_str("repaired"),
         )),
         "compare" => Some(CaseTask::Compare(names.get_str("SHEET2")?, names.get_str("merged"))),

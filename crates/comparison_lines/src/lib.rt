@@ -1,13 +1,13 @@
 //! What `compare` says of two sheets, in plain words for a director.
 //!
 //! [`push_comparison`] writes each difference with its two lines and what the rules say of them, and the verdict on the merged record. All of it is in
-//! the comparison that `sheet_comparisons` makes, and in what `repaired_choices` finds; here it is only put into words.
+//! the answer that `comparison_answers` makes; here it is only put into words.
 #![tactic(auto)]
 
 mod choices;
-mod counting;
 mod differences;
 mod lines;
+mod racks;
 mod repaired;
 mod results;
 mod written;

@@ -33,7 +33,8 @@ use Rattle.game_turns.specs.Tallies.{State, Latest, played, taken_back, other, i
 use Rattle.game_turns.specs.LatestEvents.{latest_words}
 use Rattle.game_turns.specs.Checks.{is_over, may_idle, play_fault, text_score, points_in, is_bonus, is_penalty, listed_in, is_stale, interrupts, total_after, check_score, check_total, check_turn, check_play, check_pass, check_exchange, check_withdraw, check_challenge, check_time, check_other_rack, check_own_rack, check_due_rack, check_last_rack, check_kind, fault_in}
 use Rattle.game_facts.specs.Texts.{leaves_board, new_tiles}
-use Rattle.event_facts.specs.Facts.{OfPlay, OfLastRack, is_exchange, is_withdrawal, is_challenge, exchanged, holder_by}
+use Rattle.event_facts.specs.Kinds.{OfPlay, OfLastRack, is_exchange, is_withdrawal, is_challenge}
+use Rattle.event_facts.specs.Tiles.{exchanged, holder_by}
 
 -- ---- the fault of a list of checks
 

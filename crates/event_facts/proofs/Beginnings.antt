@@ -7,6 +7,7 @@ use Rattle.game_turns.specs.declared.faults.RuleFault.{RuleFault}
 use Rattle.game_turns.specs.declared.faults.RuleFault.TheVariants as fault
 use Rattle.event_facts.specs.declared.facts.Fact.{Fact}
 use Rattle.event_facts.specs.declared.facts.Fact.TheVariants as fact
+use Rattle.event_facts.specs.declared.facts.plays.PlayFact.TheVariants as play_fact
 use Rattle.event_facts.specs.Moments.{Moment}
 use Rattle.event_facts.specs.FaultFacts.{is_fact_of, is_end_tile, begin_with, listed, says, names_end_tile, IsTallied}
 
@@ -30,14 +31,14 @@ and_second false b c more e = e
 -- the fact of a fault begins the list
 one_begins : (why : RuleFault) (said : Fact) (facts : List Fact) → is_fact_of why said ≡ true → begin_with why (said ∷ facts) ≡ true
 unfolding begin_with
-one_begins why said facts is = or_first (is_fact_of why said) (is_end_tile said && is_fact_of why fact.NotWhole && begin_with why facts) is
+one_begins why said facts is = or_first (is_fact_of why said) (is_end_tile said && is_fact_of why (fact.Play play_fact.NotWhole) && begin_with why facts) is
 
 -- what comes after it changes nothing
 more_begin : (why : RuleFault) (facts more : List Fact) → begin_with why facts ≡ true → begin_with why (facts ++ more) ≡ true
 unfolding begin_with
 more_begin why [] more is = absurd (both_ways (begin_with why []) refl is)
 more_begin why (said ∷ facts) more is =
-    let end = is_end_tile said && is_fact_of why fact.NotWhole in
+    let end = is_end_tile said && is_fact_of why (fact.Play play_fact.NotWhole) in
     or_second (is_fact_of why said) (end && begin_with why facts) (end && begin_with why (facts ++ more))
     (and_second end (begin_with why facts) (begin_with why (facts ++ more)) (more_begin why facts more)) is
 
@@ -101,10 +102,10 @@ some_before (Some said) facts end rest = end_tile_before said facts end rest
 
 -- the tiles that lie directly before and after it come first
 pub begins_behind : (before behind : Option Fact) (none one two all : List Fact) → names_end_tile before ≡ true → names_end_tile behind ≡ true → none ≡ [] → one ≡ none ++ listed before
-    → two ≡ one ++ listed behind → all ≡ two ++ fact.NotWhole ∷ [] → begin_with not_whole all ≡ true
+    → two ≡ one ++ listed behind → all ≡ two ++ fact.Play play_fact.NotWhole ∷ [] → begin_with not_whole all ≡ true
 begins_behind before behind none one two all end other is is_one is_two is_all =
-    let whole : all ≡ listed before ++ (listed behind ++ fact.NotWhole ∷ []) =
-    is_all ∙ ap (λ (facts : List Fact). facts ++ fact.NotWhole ∷ []) (is_two ∙ ap (λ (facts : List Fact). facts ++ listed behind) (is_one ∙ ap (λ (facts : List Fact). facts ++ listed before) is))
-    ∙ append_assoc (listed before) (listed behind) (fact.NotWhole ∷ []) in
+    let whole : all ≡ listed before ++ (listed behind ++ fact.Play play_fact.NotWhole ∷ []) =
+    is_all ∙ ap (λ (facts : List Fact). facts ++ fact.Play play_fact.NotWhole ∷ []) (is_two ∙ ap (λ (facts : List Fact). facts ++ listed behind) (is_one ∙ ap (λ (facts : List Fact). facts ++ listed before) is))
+    ∙ append_assoc (listed before) (listed behind) (fact.Play play_fact.NotWhole ∷ []) in
     subst (λ (facts : List Fact). begin_with not_whole facts ≡ true) (sym whole)
-    (some_before before (listed behind ++ fact.NotWhole ∷ []) end (some_before behind (fact.NotWhole ∷ []) other (one_begins not_whole fact.NotWhole [] refl)))
+    (some_before before (listed behind ++ fact.Play play_fact.NotWhole ∷ []) end (some_before behind (fact.Play play_fact.NotWhole ∷ []) other (one_begins not_whole (fact.Play play_fact.NotWhole) [] refl)))

@@ -10,7 +10,7 @@ use Rattle.deal_steps.specs.declared.steps.Act.TheVariants as act
 use Rattle.deal_steps.specs.declared.steps.Step.{Step}
 use Rattle.deal_steps.specs.Piles.{without}
 use Rattle.deal_steps.proofs.PileLaws.{get-without, get-no_tiles, length-without, length-no_tiles}
-use Rattle.event_facts.specs.Racks.{TellsPart, IsPartOf, ArePartsOf}
+use Rattle.event_facts.specs.Deals.{TellsPart, IsPartOf, ArePartsOf}
 
 -- what is left of some tiles is among them
 pub without_part : (a b : List ℕ) → IsContainedIn (without a b) a

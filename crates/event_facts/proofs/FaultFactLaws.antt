@@ -35,7 +35,9 @@ use Rattle.game_turns.specs.Tallies.{State, is_play, is_time, is_last_rack, has_
 use Rattle.game_turns.specs.Checks.{is_over, play_fault, fault_in}
 use Rattle.game_facts.specs.Texts.{leaves_board, misfits, FitsTo, new_tiles}
 use Rattle.event_facts.specs.Moments.{last_event}
-use Rattle.event_facts.specs.Facts.{OfPlay, OfLastRack, where_play, is_time_of}
+use Rattle.event_facts.specs.Kinds.{OfPlay, OfLastRack}
+use Rattle.event_facts.specs.Totals.{is_time_of}
+use Rattle.event_facts.specs.Challenges.{where_play}
 use Rattle.event_facts.proofs.Because.{because, is_played, IsNotAwaited, SaysOfPlay, none_of_play, fails_of_play, either_of_play}
 
 -- ---- whose turn it is

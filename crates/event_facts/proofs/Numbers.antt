@@ -20,7 +20,7 @@ use Rattle.gcg_read.specs.declared.events.Seat.{Seat}
 use Rattle.game_sheets.proofs.Shapes as shapes
 use Rattle.game_sheets.proofs.Numbers.{numbers_told, total_told as sum_told}
 use Rattle.game_sheets.specs.Corrections.{right_number}
-use Rattle.event_facts.specs.Facts.{withdrawn_score, last_rack_score, right_score}
+use Rattle.event_facts.specs.Scores.{withdrawn_score, last_rack_score, right_score}
 use Rattle.event_facts.proofs.Because.{score_differs}
 
 of_withdrawn : (latest : Latest) → withdrawn_score latest ≡ shapes.withdrawn_score latest

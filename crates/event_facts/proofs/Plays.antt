@@ -4,7 +4,7 @@ use Rattle.ref_board.specs.declared.directions.Dir.{Dir}
 use Rattle.ref_tiles.specs.declared.symbols.Symbol.{Symbol}
 use Rattle.gcg_read.specs.declared.events.EventKind.{EventKind}
 use Rattle.gcg_read.specs.declared.events.EventKind.TheVariants as kind
-use Rattle.event_facts.specs.Facts.{OfPlay, OfLastRack}
+use Rattle.event_facts.specs.Kinds.{OfPlay, OfLastRack}
 
 -- what holds for the place at which a play begins, its direction and its text holds for the play
 pub of_play : (what : EventKind) (at : ℕ) (dir : Dir) (word : List Symbol) (P : ℕ → Dir → List Symbol → Type 0) → what ≡ kind.Play at dir word → P at dir word → OfPlay what P

@@ -10,7 +10,7 @@ use Rattle.deal_steps.specs.Bounds.{gone, low_at}
 use Rattle.ref_tiles.specs.declared.rulebook.Rules.{Rules}
 use Rattle.deal_steps.specs.declared.deals.Held.{Held}
 use Rattle.deal_steps.specs.Fitting.{Fits}
-use Rattle.event_facts.specs.Racks.{IsDealtTo}
+use Rattle.event_facts.specs.Deals.{IsDealtTo}
 use Rattle.deal_steps.specs.Knowing.{known_of, IsShown, IsShownAt}
 
 of_seat_shown : (s : Step) (past : List Step) (player : Seat) (known : Known) → IsShown s past known → low_at player s past ≡ joined (known_of known player) (gone player past)

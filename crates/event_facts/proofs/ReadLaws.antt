@@ -15,6 +15,7 @@ use Rattle.lex_list.specs.Words.{is_listed}
 use Rattle.gcg_read.specs.declared.events.EventKind.TheVariants as kind
 use Rattle.game_turns.specs.Checks.{play_fault, text_score}
 use Rattle.event_facts.specs.declared.facts.Fact.TheVariants as fact
+use Rattle.event_facts.specs.declared.facts.readings.ReadingFact.TheVariants as reading_fact
 use Rattle.event_facts.specs.Moments.{Moment}
 use Rattle.event_facts.specs.Facts.{IsTrue}
 use Rattle.event_facts.specs.Readings.{swapped, with_symbol, IsOnRack, IsReadAs, IsSwapped, IsMisread}
@@ -48,7 +49,7 @@ read_as m board at dir word text place symbol other ps square stood read score t
 -- a letter as a blank, or a blank as a letter, by the written score
 pub as_blank : (m : Moment) (at : ℕ) (dir : Dir) (word : List Symbol) (place : ℕ) (symbol : Symbol) (square stood read : ℕ) (score : ℤ)
     → m.event.kind ≡ kind.Play at dir word → IsReadAs m at dir word place symbol (swapped symbol) square stood read score → score ≡ m.event.score
-    → IsTrue m (fact.AsBlank square stood read score)
+    → IsTrue m (fact.Reading (reading_fact.AsBlank square stood read score))
 as_blank m at dir word place symbol square stood read score play is written =
     of_play m.event.kind at dir word (λ a d w. IsSwapped m a d w square stood read score) play (record { place = place; symbol = symbol; is = is; written = written })
 

@@ -8,10 +8,10 @@ use Rattle.gcg_read.specs.declared.events.Event.{Event}
 use Rattle.game_turns.specs.LatestEvents.{standing_words}
 use Rattle.game_turns.specs.Tallies.{State, tally_at}
 use Rattle.event_facts.specs.declared.facts.Fact.{Fact}
-use Rattle.event_facts.specs.declared.facts.RackPart.{RackPart}
-use Rattle.event_facts.specs.declared.facts.Spelled.{Spelled}
-use Rattle.event_facts.specs.declared.facts.UnlistedPlay.{UnlistedPlay}
-use Rattle.event_facts.specs.Facts.{letters_in}
+use Rattle.event_facts.specs.declared.facts.games.RackPart.{RackPart}
+use Rattle.event_facts.specs.declared.facts.spelled.Spelled.{Spelled}
+use Rattle.event_facts.specs.declared.facts.games.UnlistedPlay.{UnlistedPlay}
+use Rattle.event_facts.specs.Spelling.{letters_in}
 use Rattle.event_facts.specs.Wholes.{TellsUnlisted, TellsHidden, AddsNotes, UnlistedValue, play_in, words_in, other_list, unlisted_of, play_with, unlisted_play, unlisted_to, turn_line, hidden_line, part_line, turns_to, hidden_to, parts_to, due_facts}
 
 -- what is read at a place within a list is there

@@ -8,122 +8,128 @@ use Rattle.game_turns.specs.Standing.{is_withdraw}
 use Rattle.game_turns.specs.Tallies.{tally}
 use Rattle.event_facts.specs.declared.facts.Fact.{Fact}
 use Rattle.event_facts.specs.declared.facts.Fact.TheVariants as fact
+use Rattle.event_facts.specs.declared.facts.turns.TurnFact.TheVariants as turn_fact
+use Rattle.event_facts.specs.declared.facts.plays.PlayFact.TheVariants as play_fact
+use Rattle.event_facts.specs.declared.facts.scores.ScoreFact.TheVariants as score_fact
+use Rattle.event_facts.specs.declared.facts.totals.TotalFact.TheVariants as total_fact
+use Rattle.event_facts.specs.declared.facts.challenges.ChallengeFact.TheVariants as challenge_fact
+use Rattle.event_facts.specs.declared.facts.tiles.TileFact.TheVariants as tile_fact
 use Rattle.event_facts.specs.Moments.{Moment}
 
 -- ---- facts of one kind
 
 -- whose turn it is, or on whose line a last rack must be
 abbrev pub is_of_turn : Fact → Bool
-is_of_turn (fact.OthersTurn player other) = true
-is_of_turn (fact.OthersLine player out) = true
+is_of_turn (fact.Turn (turn_fact.OthersTurn player other)) = true
+is_of_turn (fact.Turn (turn_fact.OthersLine player out)) = true
 is_of_turn other = false
 
 -- that there are no more turns
 abbrev pub is_of_end : Fact → Bool
-is_of_end fact.Complete = true
-is_of_end (fact.Out out holder) = true
-is_of_end (fact.RackLost player holder) = true
+is_of_end (fact.Turn turn_fact.Complete) = true
+is_of_end (fact.Turn (turn_fact.Out out holder)) = true
+is_of_end (fact.Turn (turn_fact.RackLost player holder)) = true
 is_of_end other = false
 
 abbrev pub is_of_due_rack : Fact → Bool
-is_of_due_rack (fact.NoRackDue limit turns) = true
+is_of_due_rack (fact.Turn (turn_fact.NoRackDue limit turns)) = true
 is_of_due_rack other = false
 
 -- the right score and the written one
 abbrev pub is_of_score : Fact → Bool
-is_of_score (fact.PlayScore right written) = true
-is_of_score (fact.PassScore right written) = true
-is_of_score (fact.ExchangeScore right written) = true
-is_of_score (fact.WithdrawalScore right written) = true
-is_of_score (fact.LastRackScore player is_doubled tiles right written) = true
+is_of_score (fact.Score (score_fact.Play right written)) = true
+is_of_score (fact.Score (score_fact.Pass right written)) = true
+is_of_score (fact.Score (score_fact.Exchange right written)) = true
+is_of_score (fact.Score (score_fact.Withdrawal right written)) = true
+is_of_score (fact.Score (score_fact.LastRack player is_doubled tiles right written)) = true
 is_of_score other = false
 
 -- the sum that makes a total
 abbrev pub is_of_total : Fact → Bool
-is_of_total (fact.WrongTotal player had score right written) = true
+is_of_total (fact.Total (total_fact.Wrong player had score right written)) = true
 is_of_total other = false
 
 -- that there is no play of the player to take back
 abbrev pub is_of_withdrawal : Fact → Bool
-is_of_withdrawal (fact.OthersPlay line player other) = true
-is_of_withdrawal (fact.NothingToTakeBack is_first) = true
+is_of_withdrawal (fact.Challenge (challenge_fact.OthersPlay line player other)) = true
+is_of_withdrawal (fact.Challenge (challenge_fact.NothingToTakeBack is_first)) = true
 is_of_withdrawal other = false
 
 abbrev pub is_of_standing_play : Fact → Bool
-is_of_standing_play (fact.PlayStands line words) = true
+is_of_standing_play (fact.Challenge (challenge_fact.PlayStands line words)) = true
 is_of_standing_play other = false
 
 abbrev pub is_of_phony : Fact → Bool
-is_of_phony (fact.NoWordListed line words) = true
+is_of_phony (fact.Challenge (challenge_fact.NoWordListed line words)) = true
 is_of_phony other = false
 
 -- which bonus a challenge gives, or that there is no play of the player that was challenged
 abbrev pub is_of_bonus : Fact → Bool
-is_of_bonus (fact.Bonus unit listed amounts written) = true
-is_of_bonus (fact.OthersBonus line player other) = true
-is_of_bonus (fact.NothingToChallenge is_first) = true
+is_of_bonus (fact.Challenge (challenge_fact.Bonus unit listed amounts written)) = true
+is_of_bonus (fact.Challenge (challenge_fact.OthersBonus line player other)) = true
+is_of_bonus (fact.Challenge (challenge_fact.NothingToChallenge is_first)) = true
 is_of_bonus other = false
 
 abbrev pub is_of_bag : Fact → Bool
-is_of_bag (fact.ExchangeRefused bag least) = true
+is_of_bag (fact.Tile (tile_fact.ExchangeRefused bag least)) = true
 is_of_bag other = false
 
 abbrev pub is_of_exchange : Fact → Bool
-is_of_exchange (fact.ExchangeSize tiles player has bag) = true
+is_of_exchange (fact.Tile (tile_fact.ExchangeSize tiles player has bag)) = true
 is_of_exchange other = false
 
 abbrev pub is_of_last_rack : Fact → Bool
-is_of_last_rack (fact.LastRackSize shown holder has) = true
+is_of_last_rack (fact.Tile (tile_fact.LastRackSize shown holder has)) = true
 is_of_last_rack other = false
 
 -- which penalties for time are possible, or that the player has one
 abbrev pub is_of_time : Fact → Bool
-is_of_time (fact.TimeStep step written) = true
-is_of_time (fact.SecondTime player line) = true
+is_of_time (fact.Total (total_fact.TimeStep step written)) = true
+is_of_time (fact.Total (total_fact.SecondTime player line)) = true
 is_of_time other = false
 
 abbrev pub is_of_used : Fact → Bool
-is_of_used (fact.TooManyUsed player used has) = true
+is_of_used (fact.Tile (tile_fact.TooManyUsed player used has)) = true
 is_of_used other = false
 
 abbrev pub is_of_board_end : Fact → Bool
-is_of_board_end (fact.LeavesBoard at dir squares room) = true
+is_of_board_end (fact.Play (play_fact.LeavesBoard at dir squares room)) = true
 is_of_board_end other = false
 
 -- a square with which a symbol of the play does not agree
 abbrev pub is_of_square : Fact → Bool
-is_of_square (fact.DotOnEmpty square) = true
-is_of_square (fact.OtherLetter square written shown) = true
+is_of_square (fact.Play (play_fact.DotOnEmpty square)) = true
+is_of_square (fact.Play (play_fact.OtherLetter square written shown)) = true
 is_of_square other = false
 
 abbrev pub is_of_new_tiles : Fact → Bool
-is_of_new_tiles fact.NoNewTile = true
+is_of_new_tiles (fact.Play play_fact.NoNewTile) = true
 is_of_new_tiles other = false
 
 abbrev pub is_of_many_tiles : Fact → Bool
-is_of_many_tiles (fact.ManyTiles tiles) = true
+is_of_many_tiles (fact.Play (play_fact.ManyTiles tiles)) = true
 is_of_many_tiles other = false
 
 abbrev pub is_of_whole : Fact → Bool
-is_of_whole fact.NotWhole = true
+is_of_whole (fact.Play play_fact.NotWhole) = true
 is_of_whole other = false
 
 abbrev pub is_of_centre : Fact → Bool
-is_of_centre fact.MissesCentre = true
+is_of_centre (fact.Play play_fact.MissesCentre) = true
 is_of_centre other = false
 
 abbrev pub is_of_length : Fact → Bool
-is_of_length fact.TooShort = true
+is_of_length (fact.Play play_fact.TooShort) = true
 is_of_length other = false
 
 abbrev pub is_of_touch : Fact → Bool
-is_of_touch fact.Apart = true
+is_of_touch (fact.Play play_fact.Apart) = true
 is_of_touch other = false
 
 -- a tile that lies directly before or after a play
 abbrev pub is_end_tile : Fact → Bool
-is_end_tile (fact.TileBefore square letter) = true
-is_end_tile (fact.TileAfter square letter) = true
+is_end_tile (fact.Play (play_fact.TileBefore square letter)) = true
+is_end_tile (fact.Play (play_fact.TileAfter square letter)) = true
 is_end_tile other = false
 
 -- ---- the fact of a fault
@@ -160,7 +166,7 @@ is_fact_of fault.TooManyUsed said = is_of_used said
 -- Facts begin with the one that says this fault. Before the one that a play is not whole, the tiles that lie directly before and after it may be named.
 unfoldable pub begin_with : RuleFault → List Fact → Bool
 begin_with why [] = false
-begin_with why (said ∷ facts) = is_fact_of why said || (is_end_tile said && is_fact_of why fact.NotWhole && begin_with why facts)
+begin_with why (said ∷ facts) = is_fact_of why said || (is_end_tile said && is_fact_of why (fact.Play play_fact.NotWhole) && begin_with why facts)
 
 -- a fact if there is one, as a list
 abbrev pub listed : Option Fact → List Fact

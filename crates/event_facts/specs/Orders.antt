@@ -6,6 +6,8 @@ use Rattle.gcg_read.specs.Players.{same_seat, other_seat}
 use Rattle.game_turns.specs.Seats.{side_of}
 use Rattle.game_turns.specs.Checks.{total_after}
 use Rattle.game_turns.specs.Places.{AreAllowed, AreAllowedTo}
+use Rattle.event_facts.specs.declared.facts.orders.OrderFact.{OrderFact}
+use Rattle.event_facts.specs.declared.facts.orders.OrderFact.TheVariants as order_fact
 use Rattle.event_facts.specs.Moments.{Moment, last_event}
 
 -- the event before says the same, on its own line
@@ -45,3 +47,10 @@ pub record IsMissing (m : Moment) (player : Seat) (score : ℤ) (before after : 
 pub record IsOthers (m : Moment) (other : Seat) : Type 0 where
   pub is : other ≡ other_seat m.event.player
   pub allowed : AreAllowedTo m.rules m.list (m.past ++ record m.event { player = other } ∷ m.later) (length m.past + 1)
+
+-- what each fact about the order of the lines says is true at the moment
+abbrev pub IsOrderTrue : Moment → OrderFact → Type 0
+IsOrderTrue m (order_fact.StandsTwice line) = StandsTwice m line
+IsOrderTrue m (order_fact.WrongWay line next) = AreTheOtherWay m line next
+IsOrderTrue m (order_fact.Missing player score before after) = IsMissing m player score before after
+IsOrderTrue m (order_fact.AllowedFor other) = IsOthers m other

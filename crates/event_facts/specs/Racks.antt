@@ -1,9 +1,9 @@
 -- What is true of racks that cannot be dealt, by the steps of a game.
-use Rattle.std.specs.Prelude.{◌≡◌, ◌⊎◌, ℕ, ◌+◌, ◌-◌, ◌<◌, ◌==◌, ◌&&◌, ◌||◌, not, Bool, true, List, [], ◌∷◌, ◌++◌, length, sum, take, reverse, slice_get, Option, Some, None, IfSome, if◌then◌else◌}
-use Rattle.std.specs.List.{flat_map, list_any}
+use Rattle.std.specs.Prelude.{◌≡◌, ℕ, ◌+◌, ◌-◌, ◌<◌, ◌==◌, ◌&&◌, ◌||◌, not, Bool, true, List, [], ◌∷◌, ◌++◌, length, sum, take, reverse, slice_get, Option, Some, None, if◌then◌else◌}
+use Rattle.std.specs.List.{list_any}
 use Rattle.ref_tiles.specs.declared.rulebook.Rules.{Rules}
 use Rattle.ref_tiles.specs.declared.kinds.Kind.{Kind}
-use Rattle.ref_tiles.specs.Counting.{no_tiles, count_of, IsContainedIn}
+use Rattle.ref_tiles.specs.Counting.{no_tiles, count_of}
 use Rattle.gcg_read.specs.declared.events.Seat.{Seat}
 use Rattle.deal_steps.specs.declared.steps.Motion.{Motion}
 use Rattle.deal_steps.specs.declared.steps.Motion.TheVariants as motion
@@ -15,17 +15,12 @@ use Rattle.deal_steps.specs.Piles.{greater, without, joined}
 use Rattle.deal_steps.specs.Steps.{needed, ends_epoch, size_of}
 use Rattle.deal_steps.specs.Bounds.{gone, low_at}
 use Rattle.deal_steps.specs.Knowing.{IsShownAt}
-use Rattle.deal_steps.specs.declared.deals.Held.{Held}
-use Rattle.deal_steps.specs.Fitting.{Fits}
-use Rattle.deal_cuts.specs.Cutting.{HasNoDeal}
-use Rattle.event_facts.specs.declared.facts.Fact.{Fact}
-use Rattle.event_facts.specs.declared.facts.Fact.TheVariants as fact
-use Rattle.event_facts.specs.declared.facts.RackLine.{RackLine}
-use Rattle.event_facts.specs.declared.facts.KindLine.{KindLine}
-use Rattle.event_facts.specs.declared.facts.ExchangeLine.{ExchangeLine}
-use Rattle.event_facts.specs.declared.facts.ClashLine.{ClashLine}
-use Rattle.event_facts.specs.declared.facts.Leaving.{Leaving}
-use Rattle.event_facts.specs.declared.facts.Leaving.TheVariants as leaves
+use Rattle.event_facts.specs.declared.facts.racks.RackFact.{RackFact}
+use Rattle.event_facts.specs.declared.facts.racks.RackFact.TheVariants as rack_fact
+use Rattle.event_facts.specs.declared.facts.racks.RackLine.{RackLine}
+use Rattle.event_facts.specs.declared.facts.racks.KindLine.{KindLine}
+use Rattle.event_facts.specs.declared.facts.racks.Leaving.{Leaving}
+use Rattle.event_facts.specs.declared.facts.racks.Leaving.TheVariants as leaves
 
 -- ---- what the lines show of a rack
 
@@ -147,72 +142,6 @@ abbrev pub kind_lines : Kind → List Step → List KindLine
 kind_lines kind [] = []
 kind_lines kind (s ∷ later) = kind_line kind (not (list_any (ends_epoch (holder_of s)) (s ∷ later))) s ++ kind_lines kind later
 
--- ---- exchanges
-
-abbrev pub exchanged_by_motion : Motion → ℕ
-exchanged_by_motion motion.Keeps = 0
-exchanged_by_motion (motion.Lays used drawn) = 0
-exchanged_by_motion (motion.Tries used) = 0
-exchanged_by_motion (motion.Throws tiles) = sum tiles
-exchanged_by_motion (motion.ThrowsUnknown n) = n
-
--- the number of tiles that a step exchanges
-abbrev pub exchanged_by : Act → ℕ
-exchanged_by (act.Turns shown what) = exchanged_by_motion what
-exchanged_by (act.TakesBack used) = 0
-exchanged_by (act.Ends holder tiles) = 0
-exchanged_by act.Rests = 0
-
-abbrev pub exchange_line : Step → List ExchangeLine
-exchange_line s = if exchanged_by s.act == 0 then [] else record { line = s.line; player = s.player; tiles = exchanged_by s.act } ∷ []
-
--- the exchanges among some steps
-abbrev pub exchange_lines : List Step → List ExchangeLine
-exchange_lines steps = flat_map exchange_line steps
-
--- ---- what already cannot be together
-
--- what a line says about a rack: for a turn the tiles that it states, and for a last rack all
-abbrev pub told_by : Act → List ℕ
-told_by (act.Turns shown what) = shown
-told_by (act.TakesBack used) = no_tiles
-told_by (act.Ends holder tiles) = tiles
-told_by act.Rests = no_tiles
-
--- an act as it is, except that a turn states only some of its tiles, or that a last rack is not shown
-abbrev pub TellsPart : (less whole : Act) → Type 0
-TellsPart less (act.Turns shown what) = (some : List ℕ) × IsContainedIn some shown × (less ≡ act.Turns some what)
-TellsPart less (act.TakesBack used) = less ≡ act.TakesBack used
-TellsPart less (act.Ends holder tiles) = (less ≡ act.Ends holder tiles) ⊎ (less ≡ act.Rests)
-TellsPart less act.Rests = less ≡ act.Rests
-
-abbrev pub IsPartOf : (less whole : Step) → Type 0
-IsPartOf less whole = TellsPart less.act whole.act × (less ≡ record whole { act = less.act })
-
--- the same steps, which show only a part of the racks
-abbrev pub ArePartsOf : (less whole : List Step) → Type 0
-ArePartsOf [] [] = Unit {0}
-ArePartsOf [] (s ∷ steps) = ⊥
-ArePartsOf (l ∷ less) [] = ⊥
-ArePartsOf (l ∷ less) (s ∷ steps) = IsPartOf l s × ArePartsOf less steps
-
--- what a step says about a rack, if it says something
-abbrev pub clash_line : Step → List ClashLine
-clash_line s = if sum (told_by s.act) == 0 then [] else record { line = s.line; player = holder_of s; tiles = told_by s.act } ∷ []
-
-abbrev pub clash_lines : List Step → List ClashLine
-clash_lines steps = flat_map clash_line steps
-
--- These tiles on these lines already cannot be together: no racks fit the steps even if the lines show no more of the racks than
--- that. What is played, exchanged and taken back stays as it is.
-pub record IsClash (rules : Rules) (steps : List Step) (lines : List ClashLine) : Type 0 where
-  pub less : List Step
-  pub parts : ArePartsOf less steps
-  pub none : HasNoDeal rules less
-  pub lines_are : lines ≡ clash_lines less
-
--- ---- each fact
-
 -- There would have to be more tiles of a kind than the game has: on the board, and on both racks by what is shown at the step.
 pub record IsShort (rules : Rules) (steps : List Step) (place : ℕ) (kind : Kind) (all many laid first second : ℕ) (lines : List KindLine) : Type 0 where
   pub step : Step
@@ -227,28 +156,10 @@ pub record IsShort (rules : Rules) (steps : List Step) (place : ℕ) (kind : Kin
   pub more : all < many
   pub lines_are : lines ≡ kind_lines kind (take place steps) ++ kind_line kind true step
 
--- the exchanges up to and including the step at a place
-pub record AreExchanges (steps : List Step) (place : ℕ) (lines : List ExchangeLine) : Type 0 where
-  pub step : Step
-  pub there : slice_get steps place ≡ Some step
-  pub lines_are : lines ≡ exchange_lines (take place steps) ++ exchange_line step
+-- ---- each fact
 
--- some racks fit the steps before a place, the last of which is on this line
-pub record IsDealtTo (rules : Rules) (steps : List Step) (place line : ℕ) : Type 0 where
-  pub step : Step
-  pub some : 0 < place
-  pub there : slice_get steps (place - 1) ≡ Some step
-  pub on_line : line ≡ step.line
-  pub racks : List Held
-  pub fit : Fits rules (take place steps) racks
-
--- What is true of the racks up to the step at a place. Where it says that no deal gives them, there is none, and a clash that it names is one.
-abbrev pub IsRackTrue : Rules → List Step → (place : ℕ) → Fact → Type 0
-IsRackTrue rules steps place (fact.RackTooBig player size tiles lines) = IsTooBig steps place player size tiles lines.items
-IsRackTrue rules steps place (fact.LeftOver player before left after kind has had) = IsLeftOver steps place player before left after kind has had
-IsRackTrue rules steps place (fact.TilesShort kind all many laid first second lines) = IsShort rules steps place kind all many laid first second lines.items
-IsRackTrue rules steps place (fact.DealtTo line) = IsDealtTo rules steps place line
-IsRackTrue rules steps place (fact.NoDeal clash exchanges) =
-    HasNoDeal rules (take (place + 1) steps) × AreExchanges steps place exchanges.items
-    × IfSome clash (λ lines. IsClash rules (take (place + 1) steps) lines.items)
-IsRackTrue rules steps place other = ⊥
+-- what each fact about racks says is true of the steps up to the one at a place
+abbrev pub IsRackTrue : Rules → List Step → (place : ℕ) → RackFact → Type 0
+IsRackTrue rules steps place (rack_fact.LeftOver player before left after kind has had) = IsLeftOver steps place player before left after kind has had
+IsRackTrue rules steps place (rack_fact.TooBig player size tiles lines) = IsTooBig steps place player size tiles lines.items
+IsRackTrue rules steps place (rack_fact.TilesShort kind all many laid first second lines) = IsShort rules steps place kind all many laid first second lines.items

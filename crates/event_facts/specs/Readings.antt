@@ -15,7 +15,11 @@ use Rattle.ref_play.specs.Texts.{placement_of}
 use Rattle.ref_play.specs.Words.{words_formed}
 use Rattle.lex_list.specs.Words.{is_listed}
 use Rattle.game_turns.specs.Checks.{play_fault, text_score}
+use Rattle.event_facts.specs.declared.facts.readings.ReadingFact.{ReadingFact}
+use Rattle.event_facts.specs.declared.facts.readings.ReadingFact.TheVariants as reading_fact
 use Rattle.event_facts.specs.Moments.{Moment}
+use Rattle.event_facts.specs.Kinds.{OfPlay}
+use Rattle.event_facts.specs.Spelling.{letters_in}
 
 -- a blank in place of a letter tile, and a letter tile in place of a blank; both show the same letter
 abbrev pub swapped : Symbol → Symbol
@@ -67,3 +71,10 @@ pub record IsMisread (m : Moment) (at : ℕ) (dir : Dir) (word : List Symbol) (s
   pub forms : words ≡ words_formed dir m.before.board (placement_of m.before.board dir at (with_symbol word place other))
   pub listed : list_all (is_listed m.list) words ≡ true
   pub noted : written ≡ m.event.score
+
+-- what each fact about the play with another tile in one place says is true at the moment
+abbrev pub IsReadingTrue : Moment → ReadingFact → Type 0
+IsReadingTrue m (reading_fact.AsBlank square letter read score) = OfPlay m.event.kind (λ at dir word. IsSwapped m at dir word square letter read score)
+IsReadingTrue m (reading_fact.NotOnRack which many has rack) = OfPlay m.event.kind (λ at dir word. IsNotOnRack m at dir word which many has rack)
+IsReadingTrue m (reading_fact.Misread square letter read words score written) =
+    OfPlay m.event.kind (λ at dir word. IsMisread m at dir word square letter read (letters_in words.items) score written)

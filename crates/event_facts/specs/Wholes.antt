@@ -15,9 +15,11 @@ use Rattle.game_turns.specs.Tallies.{State, tally_at}
 use Rattle.game_turns.specs.LatestEvents.{standing_words}
 use Rattle.event_facts.specs.declared.facts.Fact.{Fact}
 use Rattle.event_facts.specs.declared.facts.Fact.TheVariants as fact
-use Rattle.event_facts.specs.declared.facts.UnlistedPlay.{UnlistedPlay}
-use Rattle.event_facts.specs.declared.facts.RackPart.{RackPart}
-use Rattle.event_facts.specs.Facts.{letters_in}
+use Rattle.event_facts.specs.declared.facts.games.GameFact.TheVariants as game_fact
+use Rattle.event_facts.specs.declared.facts.turns.TurnFact.TheVariants as turn_fact
+use Rattle.event_facts.specs.declared.facts.games.UnlistedPlay.{UnlistedPlay}
+use Rattle.event_facts.specs.declared.facts.games.RackPart.{RackPart}
+use Rattle.event_facts.specs.Spelling.{letters_in}
 
 -- ---- plays that stand with words that are not in the list
 
@@ -58,7 +60,7 @@ words_in (p ∷ plays) = length p.words + words_in plays
 
 -- that the list may be another one
 abbrev pub other_list : (so : Bool) → List Fact
-other_list so = if so then fact.OtherList ∷ [] else []
+other_list so = if so then fact.Game game_fact.OtherList ∷ [] else []
 
 -- this is said if there are ten of them or more
 abbrev pub list_facts : (many : ℕ) → List Fact
@@ -114,9 +116,9 @@ parts_to rules events (suc many) = parts_to rules events many ++ part_line (tall
 -- once a player is out, or has lost the points of a rack, the other player's last rack, until the game is complete
 abbrev pub due_by : (complete : Bool) → (out : Option Seat) → (first second : Bool) → List Fact
 due_by true out first second = []
-due_by false (Some out) first second = fact.Out out (other_seat out) ∷ []
-due_by false None true second = fact.RackLost First Second ∷ []
-due_by false None false true = fact.RackLost Second First ∷ []
+due_by false (Some out) first second = fact.Turn (turn_fact.Out out (other_seat out)) ∷ []
+due_by false None true second = fact.Turn (turn_fact.RackLost First Second) ∷ []
+due_by false None false true = fact.Turn (turn_fact.RackLost Second First) ∷ []
 due_by false None false false = []
 
 abbrev pub due_facts : State → List Fact
@@ -126,12 +128,12 @@ due_facts s = due_by s.complete s.out s.sides.first.ended s.sides.second.ended
 
 -- all plays of a record that stand with words that are not in the list
 abbrev pub TellsUnlisted : Rules → (list : List (List ℕ)) → List Event → Fact → Type 0
-TellsUnlisted rules list events (fact.Unlisted plays) = map play_in plays.items ≡ unlisted_to rules list events (length events)
+TellsUnlisted rules list events (fact.Game (game_fact.Unlisted plays)) = map play_in plays.items ≡ unlisted_to rules list events (length events)
 TellsUnlisted rules list events other = ⊥
 
 -- all its turns that show no rack, all that show only a part of it, and the number of turns
 abbrev pub TellsHidden : Rules → List Event → Fact → Type 0
-TellsHidden rules events (fact.RacksHidden lines parts turns) =
+TellsHidden rules events (fact.Game (game_fact.RacksHidden lines parts turns)) =
     (lines.items ≡ hidden_to rules events (length events)) × (parts.items ≡ parts_to rules events (length events))
     × (turns ≡ length (turns_to rules events (length events)))
 TellsHidden rules events other = ⊥

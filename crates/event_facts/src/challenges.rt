@@ -5,10 +5,12 @@ ghost use Rattle.game_turns.specs.Checks.{listed_in};
 ghost use Rattle.ref_play.specs.Words.{items_of};
 ghost use Rattle.game_turns.specs.declared.faults.RuleFault.TheVariants as fault;
 ghost use Rattle.event_facts.specs.Moments.{moment_of, IsRefusedFor};
-ghost use Rattle.event_facts.specs.Facts.{IsTrue, letters_in, play_before};
+ghost use Rattle.event_facts.specs.Spelling.{letters_in};
+ghost use Rattle.event_facts.specs.Challenges.{play_before};
+ghost use Rattle.event_facts.specs.Facts.{IsTrue};
 ghost use Rattle.event_facts.specs.FaultFacts.{says, IsTallied};
 
-use crate::facts::{Fact, Spelled};
+use crate::facts::{ChallengeFact, Fact, Spelled};
 use crate::scenes::Scene;
 use gcg_read::{Event, EventKind, same_seat};
 use lex_list::WordList;
@@ -47,10 +49,10 @@ pub(crate) fn valid(alloc: Global, scene: &Scene<'_>) -> Result<Option<Fact>, Al
     let words = spelled(alloc, scene.machine.latest_words())?;
     match scene.past.last() {
         None => Ok(None),
-        Some(event) => Ok(Some(Fact::PlayStands {
+        Some(event) => Ok(Some(Fact::Challenge(ChallengeFact::PlayStands {
             line: event.line,
             words,
-        })),
+        }))),
     }
 }
 
@@ -64,10 +66,10 @@ pub(crate) fn phony(alloc: Global, scene: &Scene<'_>) -> Result<Option<Fact>, Al
     let words = spelled(alloc, scene.machine.latest_words())?;
     match scene.past.last() {
         None => Ok(None),
-        Some(event) => Ok(Some(Fact::NoWordListed {
+        Some(event) => Ok(Some(Fact::Challenge(ChallengeFact::NoWordListed {
             line: event.line,
             words,
-        })),
+        }))),
     }
 }
 
@@ -81,11 +83,11 @@ fn others_play(scene: &Scene<'_>, play: &Event) -> Option<Fact>
     if same_seat(play.player, scene.event.player) {
         return None;
     }
-    Some(Fact::OthersPlay {
+    Some(Fact::Challenge(ChallengeFact::OthersPlay {
         line: play.line,
         player: scene.event.player,
         other: play.player,
-    })
+    }))
 }
 
 /// Why there is no play to take back.
@@ -96,9 +98,9 @@ pub(crate) fn nothing_to_withdraw(scene: &Scene<'_>) -> Option<Fact>
 {
     match play_before(scene) {
         Some(play) => others_play(scene, play),
-        None => Some(Fact::NothingToTakeBack {
+        None => Some(Fact::Challenge(ChallengeFact::NothingToTakeBack {
             is_first: scene.past.is_empty(),
-        }),
+        })),
     }
 }
 
@@ -109,14 +111,14 @@ pub(crate) fn wrong_bonus(alloc: Global, scene: &Scene<'_>) -> Result<Option<Fac
 {
     match play_before(scene) {
         Some(play) if same_seat(play.player, scene.event.player) => bonus(alloc, scene),
-        Some(play) => Ok(Some(Fact::OthersBonus {
+        Some(play) => Ok(Some(Fact::Challenge(ChallengeFact::OthersBonus {
             line: play.line,
             player: scene.event.player,
             other: play.player,
-        })),
-        None => Ok(Some(Fact::NothingToChallenge {
+        }))),
+        None => Ok(Some(Fact::Challenge(ChallengeFact::NothingToChallenge {
             is_first: scene.past.is_empty(),
-        })),
+        }))),
     }
 }
 
@@ -138,12 +140,12 @@ fn bonus(alloc: Global, scene: &Scene<'_>) -> Result<Option<Fact>, AllocError>
     let listed = listed_in(scene.list, scene.machine.latest_words());
     let unit = scene.rules.challenge_unit as usize;
     let amounts = amounts_of(alloc, unit, listed)?;
-    Ok(Some(Fact::Bonus {
+    Ok(Some(Fact::Challenge(ChallengeFact::Bonus {
         unit,
         listed,
         amounts,
         written: scene.event.score.value(),
-    }))
+    })))
 }
 
 /// The amounts of a bonus for one word, for two, up to a number of words.

@@ -6,7 +6,7 @@
 ghost use Rattle.std.specs.Prelude.{◌≡◌, ◌++◌, ◌+◌, ◌<◌, take, length, IfOk, IfSome, OnOk};
 ghost use Rattle.ref_tiles.specs.Counting.{IsContainedIn};
 ghost use Rattle.deal_cuts.specs.Cutting.{HasNoDeal};
-ghost use Rattle.event_facts.specs.Racks.{told_by, TellsPart, IsPartOf, ArePartsOf, clash_line, clash_lines, IsClash};
+ghost use Rattle.event_facts.specs.Deals.{told_by, TellsPart, IsPartOf, ArePartsOf, clash_line, clash_lines, IsClash};
 
 use crate::facts::ClashLine;
 use crate::racks::holder_of;

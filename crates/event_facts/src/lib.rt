@@ -3,7 +3,7 @@
 
 mod challenges;
 mod clashes;
-mod dealt;
+mod deals;
 mod facts;
 mod moving;
 mod orders;
@@ -18,11 +18,13 @@ mod totals;
 mod turns;
 mod wholes;
 
-pub use dealt::dealt_to;
+pub use deals::{dealt_to, no_deal};
 pub use facts::{
-    ClashLine, ExchangeLine, Fact, KindLine, Leaving, RackLine, RackPart, Spelled, UnlistedPlay,
+    ChallengeFact, ClashLine, DealFact, ExchangeLine, Fact, GameFact, KindLine, Leaving, OrderFact,
+    PlayFact, RackFact, RackLine, RackPart, ReadingFact, RulingFact, ScoreFact, Spelled, TileFact,
+    TotalFact, TurnFact, UnlistedPlay,
 };
-pub use racks::{left_over, no_deal, rack_too_big, tiles_short};
+pub use racks::{left_over, rack_too_big, tiles_short};
 pub use readings::tell_rack_slip;
 pub use rule_faults::rule_fault_facts;
 pub use scenes::Scene;

@@ -8,7 +8,7 @@ ghost use Rattle.event_facts.specs.Moments.{moment_of};
 ghost use Rattle.event_facts.specs.Facts.{IsTrue};
 ghost use Rattle.event_facts.specs.Orders.{is_of};
 
-use crate::facts::Fact;
+use crate::facts::{Fact, OrderFact};
 use crate::scenes::Scene;
 use game_turns::play_events;
 use gcg_read::{Event, EventKind, Points, Seat, Text, same_seat};
@@ -132,7 +132,7 @@ fn stands_twice(scene: &Scene<'_>) -> Option<Fact>
     if !says_the_same(latest, scene.event) {
         return None;
     }
-    Some(Fact::StandsTwice { line: latest.line })
+    Some(Fact::Order(OrderFact::StandsTwice { line: latest.line }))
 }
 
 // ---- the events in another order, or with another player
@@ -231,10 +231,10 @@ fn wrong_way(alloc: Global, scene: &Scene<'_>) -> Result<Option<Fact>, AllocErro
     if !are_allowed(scene.rules, scene.list, events.as_slice(), end) {
         return Ok(None);
     }
-    Ok(Some(Fact::WrongWay {
+    Ok(Some(Fact::Order(OrderFact::WrongWay {
         line: scene.event.line,
         next: next.line,
-    }))
+    })))
 }
 
 /// The events with this one as the other player's.
@@ -262,7 +262,7 @@ fn allowed_for(alloc: Global, scene: &Scene<'_>) -> Result<Option<Fact>, AllocEr
     ) {
         return Ok(None);
     }
-    Ok(Some(Fact::AllowedFor { other }))
+    Ok(Some(Fact::Order(OrderFact::AllowedFor { other })))
 }
 
 // ---- a missing line
@@ -290,12 +290,12 @@ fn missing(scene: &Scene<'_>) -> Option<Fact>
     if score < 0 || scene.event.total.value() != own {
         return None;
     }
-    Some(Fact::Missing {
+    Some(Fact::Order(OrderFact::Missing {
         player,
         score,
         before: latest.line,
         after: scene.event.line,
-    })
+    }))
 }
 
 // ---- the whole

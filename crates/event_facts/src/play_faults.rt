@@ -9,7 +9,7 @@ ghost use Rattle.event_facts.specs.Moments.{moment_of};
 ghost use Rattle.event_facts.specs.Facts.{IsTrue};
 ghost use Rattle.event_facts.specs.FaultFacts.{says, names_end_tile, begin_with};
 
-use crate::facts::Fact;
+use crate::facts::{Fact, PlayFact};
 use crate::scenes::{Scene, listed, tell, tell_some};
 use game_facts::{first_misfit, new_tiles};
 use ref_board::{Dir, SIDE, Square};
@@ -30,12 +30,12 @@ fn off_board(scene: &Scene<'_>, at: Square, dir: Dir, word: &[Symbol]) -> Option
     if squares <= room {
         return None;
     }
-    Some(Fact::LeavesBoard {
+    Some(Fact::Play(PlayFact::LeavesBoard {
         at,
         dir,
         squares,
         room,
-    })
+    }))
 }
 
 /// The first square on which a text does not agree with the board.
@@ -56,14 +56,14 @@ fn mismatch(scene: &Scene<'_>, at: Square, dir: Dir, word: &[Symbol]) -> Option<
     let square = along(at, dir, k);
     match board.at(square) {
         None => match symbol {
-            Symbol::Dot => Some(Fact::DotOnEmpty { square }),
+            Symbol::Dot => Some(Fact::Play(PlayFact::DotOnEmpty { square })),
             _ => None,
         },
-        Some(tile) => Some(Fact::OtherLetter {
+        Some(tile) => Some(Fact::Play(PlayFact::OtherLetter {
             square,
             written: symbol.byte(),
             shown: tile.shown.capital(),
-        }),
+        })),
     }
 }
 
@@ -76,7 +76,7 @@ fn too_many(scene: &Scene<'_>, at: Square, dir: Dir, word: &[Symbol]) -> Option<
     ensures named { says (rule_fault.Play fault.TooManyTiles) result ≡ true }
 {
     let tiles = new_tiles(scene.machine.board(), at, dir, word)?;
-    Some(Fact::ManyTiles { tiles })
+    Some(Fact::Play(PlayFact::ManyTiles { tiles }))
 }
 
 /// The tile that lies directly before a text.
@@ -93,10 +93,10 @@ fn tile_before(scene: &Scene<'_>, at: Square, dir: Dir, word: &[Symbol]) -> Opti
     }
     let square = Square::on_line(dir, at.line(dir), place - 1);
     let tile = scene.machine.board().at(square)?;
-    Some(Fact::TileBefore {
+    Some(Fact::Play(PlayFact::TileBefore {
         square,
         letter: tile.shown.capital(),
-    })
+    }))
 }
 
 /// The tile that lies directly after a text.
@@ -112,10 +112,10 @@ fn tile_after(scene: &Scene<'_>, at: Square, dir: Dir, word: &[Symbol]) -> Optio
     }
     let square = Square::on_line(dir, at.line(dir), place + word.len());
     let tile = scene.machine.board().at(square)?;
-    Some(Fact::TileAfter {
+    Some(Fact::Play(PlayFact::TileAfter {
         square,
         letter: tile.shown.capital(),
-    })
+    }))
 }
 
 /// Which tiles lie directly before and after a text, and that its line must name the whole word.
@@ -135,7 +135,7 @@ fn whole_facts(
     let mut facts = Vec::new(alloc);
     tell_some(&mut facts, scene, tile_before(scene, at, dir, word))?;
     tell_some(&mut facts, scene, tile_after(scene, at, dir, word))?;
-    tell(&mut facts, scene, Fact::NotWhole)?;
+    tell(&mut facts, scene, Fact::Play(PlayFact::NotWhole))?;
     Ok(facts)
 }
 
@@ -174,11 +174,16 @@ pub(crate) fn play_fault_facts(
     match fault {
         PlayFault::OffBoard => only(alloc, scene, fault, off_board(scene, at, dir, word)),
         PlayFault::Mismatch => only(alloc, scene, fault, mismatch(scene, at, dir, word)),
-        PlayFault::NoNewTile => only(alloc, scene, fault, Some(Fact::NoNewTile)),
+        PlayFault::NoNewTile => only(alloc, scene, fault, Some(Fact::Play(PlayFact::NoNewTile))),
         PlayFault::TooManyTiles => only(alloc, scene, fault, too_many(scene, at, dir, word)),
         PlayFault::NotWhole => whole_facts(alloc, scene, at, dir, word),
-        PlayFault::MissesCentre => only(alloc, scene, fault, Some(Fact::MissesCentre)),
-        PlayFault::TooShort => only(alloc, scene, fault, Some(Fact::TooShort)),
-        PlayFault::Apart => only(alloc, scene, fault, Some(Fact::Apart)),
+        PlayFault::MissesCentre => only(
+            alloc,
+            scene,
+            fault,
+            Some(Fact::Play(PlayFact::MissesCentre)),
+        ),
+        PlayFault::TooShort => only(alloc, scene, fault, Some(Fact::Play(PlayFact::TooShort))),
+        PlayFault::Apart => only(alloc, scene, fault, Some(Fact::Play(PlayFact::Apart))),
     }
 }

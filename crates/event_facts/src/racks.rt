@@ -1,13 +1,13 @@
-//! Racks that cannot be dealt.
+//! Racks that would have to hold too much or too little, and kinds of tiles of which there are too few.
 ghost use Rattle.std.specs.Prelude.{◌≡◌, ◌<◌, ◌++◌, ◌↔◌, [], IsTrue, IfOk, IfSome, OnOk, Some, sum, take, reverse, slice_get, if◌then◌else◌};
 ghost use Rattle.std.specs.List.{list_any};
 ghost use Rattle.ref_tiles.specs.Counting.{no_tiles, count_of};
 ghost use Rattle.deal_steps.specs.Knowing.{IsShownAt};
 ghost use Rattle.deal_steps.specs.Steps.{needed, ends_epoch, size_of};
-ghost use Rattle.event_facts.specs.Racks.{holder_of, left_by, leaving, rack_line, rack_lines, together, left_after, leaving_by, laid_in_kind, shown_in_kind, kind_line, kind_lines, exchanged_by, exchanged_by_motion, exchange_line, exchange_lines, IsRackTrue};
+ghost use Rattle.event_facts.specs.Racks.{holder_of, left_by, leaving, rack_line, rack_lines, together, left_after, leaving_by, laid_in_kind, shown_in_kind, kind_line, kind_lines};
+ghost use Rattle.event_facts.specs.Facts.{IsTrueOfRacks};
 
-use crate::clashes::clash_at;
-use crate::facts::{ExchangeLine, Fact, KindLine, Leaving, RackLine};
+use crate::facts::{Fact, KindLine, Leaving, RackFact, RackLine};
 use deal_steps::{Act, Known, Motion, Step, greater, shown_at, used_by, without};
 use gcg_read::{Seat, same_seat};
 use ref_tiles::{Counts, KINDS, Kind, Rules};
@@ -151,7 +151,7 @@ pub fn rack_too_big(
     steps: &[Step],
     place: usize,
 ) -> Result<Option<Fact>, AllocError>
-    ensures { IfOk result (λ fact. IfSome fact (IsRackTrue rules.now steps.now place)) }
+    ensures { IfOk result (λ fact. IfSome fact (IsTrueOfRacks rules.now steps.now place)) }
 {
     let Some(step) = steps.get(place) else {
         return Ok(None);
@@ -174,7 +174,7 @@ fn too_big(
 ) -> Result<Option<Fact>, AllocError>
     requires there { slice_get steps.now place ≡ Some step.now }
     requires shown { IsShownAt steps.now place known.now }
-    ensures { IfOk result (λ fact. IfSome fact (IsRackTrue rules.now steps.now place)) }
+    ensures { IfOk result (λ fact. IfSome fact (IsTrueOfRacks rules.now steps.now place)) }
 {
     let _ = rules;
     let player = holder_of(step);
@@ -189,12 +189,12 @@ fn too_big(
     if needed.total() <= size {
         return Ok(None);
     }
-    Ok(Some(Fact::RackTooBig {
+    Ok(Some(Fact::Rack(RackFact::TooBig {
         player,
         size,
         needed,
         lines,
-    }))
+    })))
 }
 
 // ---- tiles that are left over
@@ -239,7 +239,7 @@ fn left_by_lines(
     requires lines { lines.now ≡ rack_lines player (reverse (take place steps.now)) }
     requires shows { needed player step.now ≡ Some shown.now }
     requires whole { sum shown.now ≡ size_of step.now player }
-    ensures { IfSome result (IsRackTrue rules.now steps.now place) }
+    ensures { IfSome result (IsTrueOfRacks rules.now steps.now place) }
 {
     let _ = rules;
     let _ = steps;
@@ -247,7 +247,7 @@ fn left_by_lines(
     let latest = lines.last()?;
     let left = left_after(lines);
     let kind = first_fewer(shown, &left)?;
-    Some(Fact::LeftOver {
+    Some(Fact::Rack(RackFact::LeftOver {
         player,
         before: latest.line,
         left,
@@ -255,7 +255,7 @@ fn left_by_lines(
         kind,
         has: shown.count(kind) as usize,
         had: left.count(kind) as usize,
-    })
+    }))
 }
 
 /// That a step shows a whole rack, and fewer tiles of a kind than the lines before it leave there; none if it does not.
@@ -268,7 +268,7 @@ pub fn left_over(
     steps: &[Step],
     place: usize,
 ) -> Result<Option<Fact>, AllocError>
-    ensures { IfOk result (λ fact. IfSome fact (IsRackTrue rules.now steps.now place)) }
+    ensures { IfOk result (λ fact. IfSome fact (IsTrueOfRacks rules.now steps.now place)) }
 {
     let Some(step) = steps.get(place) else {
         return Ok(None);
@@ -363,7 +363,7 @@ pub fn tiles_short(
     place: usize,
     kind: Kind,
 ) -> Result<Option<Fact>, AllocError>
-    ensures { IfOk result (λ fact. IfSome fact (IsRackTrue rules.now steps.now place)) }
+    ensures { IfOk result (λ fact. IfSome fact (IsTrueOfRacks rules.now steps.now place)) }
 {
     let Some(step) = steps.get(place) else {
         return Ok(None);
@@ -386,7 +386,7 @@ fn short(
 ) -> Result<Option<Fact>, AllocError>
     requires there { slice_get steps.now place ≡ Some step.now }
     requires shown { IsShownAt steps.now place known.now }
-    ensures { IfOk result (λ fact. IfSome fact (IsRackTrue rules.now steps.now place)) }
+    ensures { IfOk result (λ fact. IfSome fact (IsTrueOfRacks rules.now steps.now place)) }
 {
     let laid = known.laid.count(kind) as usize;
     let first = known.first.count(kind) as usize;
@@ -397,7 +397,7 @@ fn short(
     if laid + first + second <= all {
         return Ok(None);
     }
-    Ok(Some(Fact::TilesShort {
+    Ok(Some(Fact::Rack(RackFact::TilesShort {
         kind,
         all,
         needed: laid + first + second,
@@ -405,81 +405,5 @@ fn short(
         first,
         second,
         lines,
-    }))
-}
-
-// ---- no deal
-
-/// The number of tiles that a step exchanges.
-fn exchanged_by(act: &Act) -> usize
-    ensures { result ≡ exchanged_by act.now }
-{
-    match act {
-        Act::Turns { motion, .. } => exchanged_by_motion(motion),
-        Act::TakesBack(_) | Act::Ends { .. } | Act::Rests => 0,
-    }
-}
-
-/// The number of tiles that a turn exchanges.
-fn exchanged_by_motion(motion: &Motion) -> usize
-    ensures { result ≡ exchanged_by_motion motion.now }
-{
-    match motion {
-        Motion::Throws(tiles) => tiles.total(),
-        Motion::ThrowsUnknown(many) => *many,
-        Motion::Keeps | Motion::Lays { .. } | Motion::Tries(_) => 0,
-    }
-}
-
-/// Adds an exchange, if a step is one.
-fn push_exchange(lines: &mut Vec<ExchangeLine>, step: &Step) -> Result<(), AllocError>
-    ensures { OnOk result (lines.new.items ≡ lines.old.items ++ exchange_line step.now) }
-{
-    let tiles = exchanged_by(&step.act);
-    if tiles == 0 {
-        return Ok(());
-    }
-    lines.push(ExchangeLine {
-        line: step.line,
-        player: step.player,
-        tiles,
-    })?;
-    Ok(())
-}
-
-/// The exchanges among some steps.
-fn exchange_lines(alloc: Global, steps: &[Step]) -> Result<Vec<ExchangeLine>, AllocError>
-    ensures { IfOk result (λ lines. lines.items ≡ exchange_lines steps.now) }
-{
-    let mut lines = Vec::new(alloc);
-    for step in steps {
-        push_exchange(&mut lines, step)?;
-    }
-    Ok(lines)
-}
-
-/// Which tiles and lines cannot be together, and the exchanges up to a step; none if no proof is found that no deal gives the racks up
-/// to it.
-///
-/// It fails only if memory runs out.
-pub fn no_deal(
-    alloc: Global,
-    rules: &Rules,
-    steps: &[Step],
-    place: usize,
-) -> Result<Option<Fact>, AllocError>
-    ensures { IfOk result (λ fact. IfSome fact (IsRackTrue rules.now steps.now place)) }
-{
-    let Some(step) = steps.get(place) else {
-        return Ok(None);
-    };
-    let Some(clash) = clash_at(alloc, rules, steps, place)? else {
-        return Ok(None);
-    };
-    let mut exchanges = exchange_lines(alloc, steps.get(..place).unwrap_or(&[]))?;
-    push_exchange(&mut exchanges, step)?;
-    Ok(Some(Fact::NoDeal {
-        clash: clash.lines,
-        exchanges,
-    }))
+    })))
 }

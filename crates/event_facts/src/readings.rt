@@ -9,7 +9,7 @@ ghost use Rattle.event_facts.specs.Facts.{IsTrue};
 ghost use Rattle.event_facts.specs.Readings.{swapped, with_symbol, IsOnRack};
 
 use crate::challenges::spelled;
-use crate::facts::Fact;
+use crate::facts::{Fact, ReadingFact};
 use crate::scenes::{Scene, tell_some};
 use game_turns::{all_listed, legal_play};
 use gcg_read::EventKind;
@@ -124,12 +124,12 @@ fn as_blank(
     if score != scene.event.score.value() || shows_too_much(scene, &play.tiles) {
         return Ok(None);
     }
-    Ok(Some(Fact::AsBlank {
+    Ok(Some(Fact::Reading(ReadingFact::AsBlank {
         square: along(at, dir, place),
         letter: symbol.byte(),
         read: other.byte(),
         score,
-    }))
+    })))
 }
 
 /// Whether the rack that a line shows and the tiles of a play are together more than the player has.
@@ -188,12 +188,12 @@ fn not_on_rack(
     if played <= has {
         return None;
     }
-    Some(Fact::NotOnRack {
+    Some(Fact::Reading(ReadingFact::NotOnRack {
         kind: which,
         played,
         has,
         rack: *rack,
-    })
+    }))
 }
 
 /// Adds which tiles of a play are not on the rack that its line shows.
@@ -251,22 +251,19 @@ fn misread(
     if !is_on_rack(rack, &play.tiles) || !all_listed(scene.list, &formed) {
         return Ok(None);
     }
-    Ok(Some(Fact::Misread {
+    Ok(Some(Fact::Reading(ReadingFact::Misread {
         square: along(at, dir, place),
         letter: symbol.byte(),
         read: other.byte(),
         words: spelled(alloc, &formed)?,
         score: score(scene.rules, board, &play),
         written: scene.event.score.value(),
-    }))
+    })))
 }
 
 /// Whether a fact is a reading with the score that is written.
 fn is_as_written(fact: &Option<Fact>) -> bool {
-    match fact {
-        Some(Fact::Misread { score, written, .. }) => score == written,
-        _ => false,
-    }
+    matches!(fact, Some(Fact::Reading(ReadingFact::Misread { score, written, .. })) if score == written)
 }
 
 /// Which readings are named: those with the written score, or all; and the maximum number of facts.

@@ -9,7 +9,7 @@ ghost use Rattle.event_facts.specs.Facts.{IsTrue};
 ghost use Rattle.event_facts.specs.FaultFacts.{is_fact_of, begin_with};
 ghost use Rattle.event_facts.specs.Elsewhere.{is_listed_at, standing, places};
 
-use crate::facts::Fact;
+use crate::facts::{Fact, ScoreFact};
 use crate::moving::standing_spots;
 use crate::readings::tell_slips;
 use crate::scenes::{Scene, tell, tell_all, tell_some};
@@ -34,20 +34,20 @@ pub(crate) fn score_fact(scene: &Scene<'_>, right: i32) -> Fact
 {
     let written = scene.event.score.value();
     match &scene.event.kind {
-        EventKind::Play { .. } => Fact::PlayScore { right, written },
-        EventKind::Pass => Fact::PassScore { right, written },
-        EventKind::Exchange(_) => Fact::ExchangeScore { right, written },
-        EventKind::ExchangeUnknown(_) => Fact::ExchangeScore { right, written },
-        EventKind::Withdraw => Fact::WithdrawalScore { right, written },
-        EventKind::LastRack(tiles) => Fact::LastRackScore {
+        EventKind::Play { .. } => Fact::Score(ScoreFact::Play { right, written }),
+        EventKind::Pass => Fact::Score(ScoreFact::Pass { right, written }),
+        EventKind::Exchange(_) => Fact::Score(ScoreFact::Exchange { right, written }),
+        EventKind::ExchangeUnknown(_) => Fact::Score(ScoreFact::Exchange { right, written }),
+        EventKind::Withdraw => Fact::Score(ScoreFact::Withdrawal { right, written }),
+        EventKind::LastRack(tiles) => Fact::Score(ScoreFact::LastRack {
             player: scene.event.player,
             is_doubled: scene.machine.out().is_some(),
             tiles: *tiles,
             right,
             written,
-        },
-        EventKind::Challenge => Fact::OtherScore { right, written },
-        EventKind::Time => Fact::OtherScore { right, written },
+        }),
+        EventKind::Challenge => Fact::Score(ScoreFact::Other { right, written }),
+        EventKind::Time => Fact::Score(ScoreFact::Other { right, written }),
     }
 }
 
@@ -141,11 +141,11 @@ pub(crate) fn elsewhere(
         return Ok(None);
     }
     let named = first_named(alloc, spots.as_slice())?;
-    Ok(Some(Fact::ElsewhereScore {
+    Ok(Some(Fact::Score(ScoreFact::Elsewhere {
         written: scene.event.score.value(),
         spots: named.spots,
         others: named.others,
-    }))
+    })))
 }
 
 /// That the written total is the right one with the right score.
@@ -157,10 +157,10 @@ fn fitting_total(scene: &Scene<'_>, right: i32) -> Option<Fact>
     if scene.event.total.value() != sum {
         return None;
     }
-    Some(Fact::TotalFits {
+    Some(Fact::Score(ScoreFact::TotalFits {
         score: right,
         total: sum,
-    })
+    }))
 }
 
 /// Adds where the text of a play has the written score and stands with the rest of the record; if it does so nowhere, that the written

@@ -2,10 +2,11 @@
 ghost use Rattle.std.specs.Prelude.{◌≡◌, true, IfSome};
 ghost use Rattle.game_turns.specs.declared.faults.RuleFault.TheVariants as fault;
 ghost use Rattle.event_facts.specs.Moments.{moment_of, IsRefusedFor};
-ghost use Rattle.event_facts.specs.Facts.{IsTrue, exchanged, holder_at};
+ghost use Rattle.event_facts.specs.Tiles.{exchanged, holder_at};
+ghost use Rattle.event_facts.specs.Facts.{IsTrue};
 ghost use Rattle.event_facts.specs.FaultFacts.{says};
 
-use crate::facts::Fact;
+use crate::facts::{Fact, TileFact};
 use crate::scenes::Scene;
 use game_facts::new_tiles;
 use gcg_read::{EventKind, Seat};
@@ -21,11 +22,11 @@ pub(crate) fn too_many_used(scene: &Scene<'_>) -> Option<Fact>
         return None;
     };
     let used = new_tiles(scene.machine.board(), *at, *dir, word.as_slice())?;
-    Some(Fact::TooManyUsed {
+    Some(Fact::Tile(TileFact::TooManyUsed {
         player: scene.event.player,
         used,
         has: scene.machine.rack_size(scene.event.player),
-    })
+    }))
 }
 
 /// The number of tiles in the bag, and the number that an exchange needs.
@@ -35,10 +36,10 @@ pub(crate) fn exchange_refused(scene: &Scene<'_>) -> Option<Fact>
     ensures told { IfSome result (IsTrue (moment_of scene.now)) }
     ensures named { says fault.ExchangeRefused result ≡ true }
 {
-    Some(Fact::ExchangeRefused {
+    Some(Fact::Tile(TileFact::ExchangeRefused {
         bag: scene.machine.bag_size(),
         least: scene.rules.exchange_min as usize,
-    })
+    }))
 }
 
 /// The number of tiles that an event exchanges.
@@ -59,12 +60,12 @@ pub(crate) fn exchange_size(scene: &Scene<'_>) -> Option<Fact>
     ensures told { IfSome result (IsTrue (moment_of scene.now)) }
     ensures named { says fault.ExchangeSize result ≡ true }
 {
-    Some(Fact::ExchangeSize {
+    Some(Fact::Tile(TileFact::ExchangeSize {
         tiles: exchanged(&scene.event.kind),
         player: scene.event.player,
         has: scene.machine.rack_size(scene.event.player),
         bag: scene.machine.bag_size(),
-    })
+    }))
 }
 
 /// The player whose last rack an event shows: the other player once a player is out, otherwise its own player.
@@ -88,9 +89,9 @@ pub(crate) fn last_rack_size(scene: &Scene<'_>) -> Option<Fact>
         return None;
     };
     let holder = holder(scene);
-    Some(Fact::LastRackSize {
+    Some(Fact::Tile(TileFact::LastRackSize {
         shown: tiles.total(),
         holder,
         has: scene.machine.rack_size(holder),
-    })
+    }))
 }

@@ -6,10 +6,11 @@ ghost use Rattle.game_turns.specs.Machines.{state_of};
 ghost use Rattle.game_turns.specs.Seats.{side_of};
 ghost use Rattle.game_turns.specs.declared.faults.RuleFault.TheVariants as fault;
 ghost use Rattle.event_facts.specs.Moments.{moment_of, IsRefusedFor};
-ghost use Rattle.event_facts.specs.Facts.{IsTrue, IsTimeOf, is_time_of};
+ghost use Rattle.event_facts.specs.Totals.{IsTimeOf, is_time_of};
+ghost use Rattle.event_facts.specs.Facts.{IsTrue};
 ghost use Rattle.event_facts.specs.FaultFacts.{is_fact_of, begin_with, says, IsTallied};
 
-use crate::facts::Fact;
+use crate::facts::{Fact, TotalFact};
 use crate::scenes::{Scene, tell, tell_some};
 use game_facts::latest_with;
 use gcg_read::{Event, EventKind, Seat, same_seat};
@@ -22,13 +23,13 @@ fn wrong_total(scene: &Scene<'_>, right: i32) -> Fact
     ensures told { IsTrue (moment_of scene.now) result }
     ensures named { is_fact_of (fault.WrongTotal right) result ≡ true }
 {
-    Fact::WrongTotal {
+    Fact::Total(TotalFact::Wrong {
         player: scene.event.player,
         had: scene.machine.total(scene.event.player),
         score: scene.event.score.value(),
         right,
         written: scene.event.total.value(),
-    }
+    })
 }
 
 /// The turn that a total leaves out, if it is right except for that one.
@@ -39,10 +40,10 @@ fn left_out(scene: &Scene<'_>, right: i32) -> Option<Fact>
 {
     let score = right.checked_sub(scene.event.total.value())?;
     if scene.event.score.value() == score {
-        return Some(Fact::LeavesOutOwn);
+        return Some(Fact::Total(TotalFact::LeavesOutOwn));
     }
     let line = latest_with(scene.past, scene.event.player, score)?;
-    Some(Fact::LeavesOut { line, score })
+    Some(Fact::Total(TotalFact::LeavesOut { line, score }))
 }
 
 /// The sum that makes a total, and the turn that it leaves out, if it is right except for one.
@@ -91,7 +92,7 @@ fn second_time(scene: &Scene<'_>) -> Option<Fact>
 {
     let player = scene.event.player;
     let line = time_line(scene.past, player)?;
-    Some(Fact::SecondTime { player, line })
+    Some(Fact::Total(TotalFact::SecondTime { player, line }))
 }
 
 /// Which penalties for time are possible.
@@ -104,8 +105,8 @@ pub(crate) fn bad_time(scene: &Scene<'_>) -> Option<Fact>
     if scene.machine.is_timed(scene.event.player) {
         return second_time(scene);
     }
-    Some(Fact::TimeStep {
+    Some(Fact::Total(TotalFact::TimeStep {
         step: scene.rules.time_step as usize,
         written: scene.event.score.value(),
-    })
+    }))
 }

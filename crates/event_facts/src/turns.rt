@@ -8,7 +8,7 @@ ghost use Rattle.event_facts.specs.Moments.{moment_of, IsRefusedFor};
 ghost use Rattle.event_facts.specs.Facts.{IsTrue};
 ghost use Rattle.event_facts.specs.FaultFacts.{is_fact_of, says};
 
-use crate::facts::Fact;
+use crate::facts::{Fact, TurnFact};
 use crate::scenes::Scene;
 use gcg_read::{EventKind, Seat};
 
@@ -21,10 +21,10 @@ fn others_line(scene: &Scene<'_>) -> Option<Fact>
     ensures named { says fault.NotYourTurn result ≡ true }
 {
     let out = scene.machine.out()?;
-    Some(Fact::OthersLine {
+    Some(Fact::Turn(TurnFact::OthersLine {
         player: scene.event.player,
         out,
-    })
+    }))
 }
 
 /// Whether an event is a last rack.
@@ -44,10 +44,10 @@ pub(crate) fn not_your_turn(scene: &Scene<'_>) -> Option<Fact>
     if is_last_rack(&scene.event.kind) {
         return others_line(scene);
     }
-    Some(Fact::OthersTurn {
+    Some(Fact::Turn(TurnFact::OthersTurn {
         player: scene.event.player,
         other: scene.event.player.other(),
-    })
+    }))
 }
 
 /// The player who has lost the points of a rack, if turns are over and no player is out.
@@ -73,10 +73,10 @@ fn rack_lost(scene: &Scene<'_>) -> Fact
     ensures named { is_fact_of fault.GameOver result ≡ true }
 {
     let player = loser(scene);
-    Fact::RackLost {
+    Fact::Turn(TurnFact::RackLost {
         player,
         holder: player.other(),
-    }
+    })
 }
 
 /// Why there are no more turns, and what is missing.
@@ -86,13 +86,13 @@ pub(crate) fn game_over(scene: &Scene<'_>) -> Option<Fact>
     ensures named { says fault.GameOver result ≡ true }
 {
     if scene.machine.finished() {
-        return Some(Fact::Complete);
+        return Some(Fact::Turn(TurnFact::Complete));
     }
     match scene.machine.out() {
-        Some(out) => Some(Fact::Out {
+        Some(out) => Some(Fact::Turn(TurnFact::Out {
             out,
             holder: out.other(),
-        }),
+        })),
         None => Some(rack_lost(scene)),
     }
 }
@@ -104,8 +104,8 @@ pub(crate) fn not_over(scene: &Scene<'_>) -> Option<Fact>
     ensures told { IfSome result (IsTrue (moment_of scene.now)) }
     ensures named { says fault.NotOver result ≡ true }
 {
-    Some(Fact::NoRackDue {
+    Some(Fact::Turn(TurnFact::NoRackDue {
         limit: scene.rules.zero_limit as usize,
         turns: scene.machine.idle_turns(),
-    })
+    }))
 }

@@ -5,10 +5,10 @@ ghost use Rattle.ref_play.specs.Words.{items_of};
 ghost use Rattle.game_turns.specs.Machines.{rules_of, state_of};
 ghost use Rattle.game_turns.specs.Passing.{rules_in, record_in, list_in};
 ghost use Rattle.game_turns.specs.Tallies.{tally_at};
-ghost use Rattle.event_facts.specs.Facts.{letters_in};
+ghost use Rattle.event_facts.specs.Spelling.{letters_in};
 ghost use Rattle.event_facts.specs.Wholes.{play_in, unlisted_one, unlisted_of, play_with, unlisted_to, words_in, other_list, may_show, one_where, turn_line, hidden_line, part_by, part_line, turns_to, hidden_to, parts_to, due_by, due_facts, TellsUnlisted, TellsHidden, AddsNotes};
 
-use crate::facts::{Fact, RackPart, Spelled, UnlistedPlay};
+use crate::facts::{Fact, GameFact, RackPart, Spelled, TurnFact, UnlistedPlay};
 use game_turns::{Machine, Passed};
 use gcg_read::{Event, EventKind, Seat};
 use lex_list::WordList;
@@ -198,7 +198,7 @@ fn push_other_list(facts: &mut Vec<Fact>, so: bool) -> Result<(), AllocError>
     ensures { OnOk result (facts.new.items ≡ facts.old.items ++ other_list so) }
 {
     if so {
-        facts.push(Fact::OtherList)?;
+        facts.push(Fact::Game(GameFact::OtherList))?;
     }
     Ok(())
 }
@@ -208,17 +208,17 @@ fn push_lost(facts: &mut Vec<Fact>, first: bool, second: bool) -> Result<(), All
     ensures { OnOk result (facts.new.items ≡ facts.old.items ++ due_by false None first second) }
 {
     if first {
-        facts.push(Fact::RackLost {
+        facts.push(Fact::Turn(TurnFact::RackLost {
             player: Seat::First,
             holder: Seat::Second,
-        })?;
+        }))?;
         return Ok(());
     }
     if second {
-        facts.push(Fact::RackLost {
+        facts.push(Fact::Turn(TurnFact::RackLost {
             player: Seat::Second,
             holder: Seat::First,
-        })?;
+        }))?;
     }
     Ok(())
 }
@@ -237,10 +237,10 @@ fn push_due_by(
         return Ok(());
     }
     if let Some(out) = out {
-        facts.push(Fact::Out {
+        facts.push(Fact::Turn(TurnFact::Out {
             out,
             holder: out.other(),
-        })?;
+        }))?;
         return Ok(());
     }
     push_lost(facts, first, second)
@@ -278,11 +278,11 @@ fn hidden_fact(alloc: Global, passed: &Passed<'_>) -> Result<Fact, AllocError>
 {
     let lines = turn_lines(alloc, passed)?;
     let turns = lines.turns.len();
-    Ok(Fact::RacksHidden {
+    Ok(Fact::Game(GameFact::RacksHidden {
         lines: lines.hidden,
         parts: lines.parts,
         turns,
-    })
+    }))
 }
 
 /// Adds what is said about a record whose events the rules allow: which of its plays stand with words that are not in the list, which of
@@ -301,7 +301,7 @@ pub fn push_notes(
     let many = has_many(plays.as_slice());
     let hidden = hidden_fact(alloc, passed)?;
     let end = end_of(passed);
-    facts.push(Fact::Unlisted { plays })?;
+    facts.push(Fact::Game(GameFact::Unlisted { plays }))?;
     push_other_list(facts, many)?;
     facts.push(hidden)?;
     push_due(facts, &end)?;

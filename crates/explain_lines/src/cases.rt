@@ -1,40 +1,35 @@
 //! What explains a case.
 ghost use Rattle.std.specs.Prelude.{◌≡◌, ◌++◌, OnOk};
 ghost use Rattle.case_openings.specs.Openings.{opening, GoesOn};
-ghost use Rattle.game_case.specs.Explaining.{HasItsWalk};
 
 use crate::boards::push_shown;
 use crate::facts::push_facts;
-use case_explanations::explain;
 use case_openings::push_opening;
 use explanations::{Explanation, Picture};
 use game_case::Case;
-use gcg_read::ReadFault;
-use lex_list::WordList;
+use gcg_read::{Players, ReadFault};
 use record_sentences::{
     push_fault_sentences, push_other_faults, push_time_racks, push_unread_lines,
 };
-use ref_tiles::Rules;
 use sentence_parts::say_of_line;
 use std::alloc::{AllocError, Global};
 
 /// Appends what explains the verdict on a record, or one of its lines: the verdict line; the line as it is in the file; which lines are not read
-/// although they look like events; what is wrong with the line; the words of a play with what each square adds; and the board before it.
+/// although they look like events; what is wrong with the line; the words of a play with what each square adds; and the board before it. The
+/// explanation is that of the case and the line; there is none if the text is not a record, or no event is on the line or after it.
 ///
 /// It fails only if memory runs out.
 #[tactic(auto, using(crate::proofs::GoingOn::goes_on))]
 pub fn push_explanation(
     alloc: Global,
     text: &mut Vec<u8>,
-    rules: &Rules,
-    list: &WordList,
     case: &Case,
     line: Option<u32>,
+    explanation: Option<&Explanation>,
 ) -> Result<(), AllocError>
-    requires { HasItsWalk rules.now list.now case.now }
     ensures { OnOk result (GoesOn (opening case.now.text.items case.now.read line) text.old.items text.new.items) }
 {
-    let sentences = sentences_of(alloc, rules, list, case, line)?;
+    let sentences = sentences_of(alloc, case, explanation)?;
     push_opening(alloc, text, case, line)?;
     push_all(text, sentences.as_slice())
 }
@@ -49,25 +44,20 @@ fn push_all(text: &mut Vec<u8>, more: &[u8]) -> Result<(), AllocError>
 /// What an explanation says after its opening.
 fn sentences_of(
     alloc: Global,
-    rules: &Rules,
-    list: &WordList,
     case: &Case,
-    line: Option<u32>,
-) -> Result<Vec<u8>, AllocError>
-    requires { HasItsWalk rules.now list.now case.now }
-{
+    explanation: Option<&Explanation>,
+) -> Result<Vec<u8>, AllocError> {
     let mut text = Vec::new(alloc);
     let bytes = case.text.as_slice();
-    match (&case.read, &case.walk) {
-        (Ok(entry), Some(walk)) => {
+    match &case.read {
+        Ok(entry) => {
             push_unread_lines(alloc, &mut text, bytes)?;
             push_time_racks(&mut text, bytes)?;
-            if let Some(told) = explain(alloc, rules, list, entry, walk, line)? {
-                push_told(&mut text, &told)?;
+            if let Some(told) = explanation {
+                push_told(&mut text, &entry.record.players, told)?;
             }
         }
-        (Ok(_), None) => unreachable!(),
-        (Err(fault), _) => push_faults(alloc, &mut text, bytes, *fault)?,
+        Err(fault) => push_faults(alloc, &mut text, bytes, *fault)?,
     }
     Ok(text)
 }
@@ -85,8 +75,8 @@ fn push_faults(
 }
 
 /// Appends an explanation after its opening: the facts, and what is shown with them.
-fn push_told(text: &mut Vec<u8>, told: &Explanation<'_>) -> Result<(), AllocError> {
-    push_facts(text, told)?;
+fn push_told(text: &mut Vec<u8>, players: &Players, told: &Explanation) -> Result<(), AllocError> {
+    push_facts(text, players, told)?;
     let Some(line) = told.line else {
         return Ok(());
     };
@@ -102,15 +92,16 @@ fn push_told(text: &mut Vec<u8>, told: &Explanation<'_>) -> Result<(), AllocErro
     }
 }
 
-/// Appends the sentences of an explanation, if there is one, and nothing that is shown with them.
+/// Appends the sentences of an explanation, if there is one, with the names of these players, and nothing that is shown with them.
 ///
 /// It fails only if memory runs out.
 pub fn push_reason(
     text: &mut Vec<u8>,
-    explanation: Option<&Explanation<'_>>,
+    players: &Players,
+    explanation: Option<&Explanation>,
 ) -> Result<(), AllocError> {
     match explanation {
-        Some(explanation) => push_facts(text, explanation),
+        Some(explanation) => push_facts(text, players, explanation),
         None => Ok(()),
     }
 }

@@ -2,7 +2,7 @@
 
 use crate::names::nick;
 use crate::spelling::push_words;
-use event_facts::{Fact, Spelled};
+use event_facts::{ChallengeFact, Spelled};
 use gcg_read::{Players, Seat};
 use sentence_parts::{Part, say, say_of_line};
 use std::alloc::AllocError;
@@ -21,7 +21,7 @@ fn push_ruled(
 }
 
 /// Appends that the play before is the other player's.
-fn push_others_play(
+fn push_others(
     text: &mut Vec<u8>,
     players: &Players,
     line: u32,
@@ -37,6 +37,33 @@ fn push_others_play(
             Part::Say("'s, so "),
         ],
     )
+}
+
+/// Appends that a player cannot take back the other player's play.
+fn push_others_play(
+    text: &mut Vec<u8>,
+    players: &Players,
+    line: u32,
+    player: Seat,
+    other: Seat,
+) -> Result<(), AllocError> {
+    push_others(text, players, line, other)?;
+    text.extend_from_slice(nick(players, player))?;
+    text.extend_from_slice(b" cannot take it back.\n")
+}
+
+/// Appends that the bonus of the other player's play cannot go to a player.
+fn push_others_bonus(
+    text: &mut Vec<u8>,
+    players: &Players,
+    line: u32,
+    player: Seat,
+    other: Seat,
+) -> Result<(), AllocError> {
+    push_others(text, players, line, other)?;
+    text.extend_from_slice(b"its bonus cannot go to ")?;
+    text.extend_from_slice(nick(players, player))?;
+    text.extend_from_slice(b".\n")
 }
 
 /// Appends that no play comes directly before the event, so that there is none to be taken back or challenged.
@@ -102,56 +129,44 @@ fn push_written(text: &mut Vec<u8>, written: i32) -> Result<(), AllocError> {
     )
 }
 
-/// Appends a fact about another player's play.
-fn push_others(text: &mut Vec<u8>, players: &Players, fact: &Fact) -> Result<(), AllocError> {
-    match fact {
-        Fact::OthersPlay {
-            line,
-            player,
-            other,
-        } => {
-            push_others_play(text, players, *line, *other)?;
-            text.extend_from_slice(nick(players, *player))?;
-            text.extend_from_slice(b" cannot take it back.\n")
-        }
-        Fact::OthersBonus {
-            line,
-            player,
-            other,
-        } => {
-            push_others_play(text, players, *line, *other)?;
-            text.extend_from_slice(b"its bonus cannot go to ")?;
-            text.extend_from_slice(nick(players, *player))?;
-            text.extend_from_slice(b".\n")
-        }
-        _ => Ok(()),
-    }
-}
-
 /// Appends a fact about a play that is taken back or challenged.
 pub fn push_challenge_fact(
     text: &mut Vec<u8>,
     players: &Players,
-    fact: &Fact,
+    fact: &ChallengeFact,
 ) -> Result<(), AllocError> {
     match fact {
-        Fact::PlayStands { line, words } => push_ruled(
+        ChallengeFact::PlayStands { line, words } => push_ruled(
             text,
             "The play on line ",
             *line,
             " stands, since each of its words is in the word list: ",
             words.as_slice(),
         ),
-        Fact::NoWordListed { line, words } => push_ruled(
+        ChallengeFact::NoWordListed { line, words } => push_ruled(
             text,
             "The challenge of the play on line ",
             *line,
             " succeeds, since none of its words is in the word list: ",
             words.as_slice(),
         ),
-        Fact::NothingToTakeBack { is_first } => push_no_play(text, *is_first, "take back"),
-        Fact::NothingToChallenge { is_first } => push_no_play(text, *is_first, "challenge"),
-        Fact::Bonus {
+        ChallengeFact::OthersPlay {
+            line,
+            player,
+            other,
+        } => push_others_play(text, players, *line, *player, *other),
+        ChallengeFact::OthersBonus {
+            line,
+            player,
+            other,
+        } => push_others_bonus(text, players, *line, *player, *other),
+        ChallengeFact::NothingToTakeBack { is_first } => push_no_play(text, *is_first, "take back"),
+        ChallengeFact::NothingToChallenge { is_first } => push_no_play(
+            text,
+            *is_first,
+            "challenge",
+        ),
+        ChallengeFact::Bonus {
             unit,
             listed,
             amounts,
@@ -161,6 +176,5 @@ pub fn push_challenge_fact(
             push_amounts(text, amounts.as_slice())?;
             push_written(text, *written)
         }
-        _ => push_others(text, players, fact),
     }
 }

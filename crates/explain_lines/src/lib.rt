@@ -8,12 +8,14 @@
 mod boards;
 mod cases;
 mod challenges;
+mod deals;
 mod facts;
 mod names;
 mod orders;
 mod play_faults;
 mod racks;
 mod readings;
+mod rulings;
 mod scores;
 mod spelling;
 mod tiles;

@@ -1,7 +1,7 @@
 //! Lines that are there twice, in the wrong order or under the wrong name, and lines that are missing.
 
 use crate::names::nick;
-use event_facts::Fact;
+use event_facts::OrderFact;
 use gcg_read::{Players, Seat};
 use sentence_parts::{Part, say, say_of_line};
 use std::alloc::AllocError;
@@ -83,23 +83,22 @@ fn push_allowed_for(text: &mut Vec<u8>, players: &Players, other: Seat) -> Resul
 pub fn push_order_fact(
     text: &mut Vec<u8>,
     players: &Players,
-    fact: &Fact,
+    fact: &OrderFact,
 ) -> Result<(), AllocError> {
     match fact {
-        Fact::StandsTwice { line } => say_of_line(
+        OrderFact::StandsTwice { line } => say_of_line(
             text,
             "This line says the same as line ",
             *line,
             "; it may have been written twice by mistake.\n",
         ),
-        Fact::WrongWay { line, next } => push_wrong_way(text, *line, *next),
-        Fact::Missing {
+        OrderFact::WrongWay { line, next } => push_wrong_way(text, *line, *next),
+        OrderFact::Missing {
             player,
             score,
             before,
             after,
         } => push_missing(text, players, *player, *score, *before, *after),
-        Fact::AllowedFor { other } => push_allowed_for(text, players, *other),
-        _ => Ok(()),
+        OrderFact::AllowedFor { other } => push_allowed_for(text, players, *other),
     }
 }

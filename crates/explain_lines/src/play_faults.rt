@@ -1,6 +1,6 @@
 //! What is wrong with the text or the placement of a play.
 
-use event_facts::Fact;
+use event_facts::PlayFact;
 use ref_board::{Dir, Square};
 use sentence_parts::{Part, say};
 use std::alloc::AllocError;
@@ -107,44 +107,36 @@ fn push_beside(
     )
 }
 
-/// Appends a fact that has no number.
-fn push_plain(text: &mut Vec<u8>, fact: &Fact) -> Result<(), AllocError> {
-    match fact {
-        Fact::NoNewTile => text.extend_from_slice(
-            b"Every square of the play already has a tile, so no tile is new.\n",
-        ),
-        Fact::NotWhole => text.extend_from_slice(b"The line has to name the whole word.\n"),
-        Fact::MissesCentre => text.extend_from_slice(
-            b"The first play of a game has to cover 8H, and this one does not.\n",
-        ),
-        Fact::TooShort => {
-            text.extend_from_slice(b"The play makes no word of two letters or more.\n")
-        }
-        Fact::Apart => text.extend_from_slice(
-            b"No tile of the play touches a tile that is already on the board.\n",
-        ),
-        _ => Ok(()),
-    }
-}
-
 /// Appends a fact about the text or the placement of a play.
-pub fn push_play_fact(text: &mut Vec<u8>, fact: &Fact) -> Result<(), AllocError> {
+pub fn push_play_fact(text: &mut Vec<u8>, fact: &PlayFact) -> Result<(), AllocError> {
     match fact {
-        Fact::LeavesBoard {
+        PlayFact::LeavesBoard {
             at,
             dir,
             squares,
             room,
         } => push_off_board(text, *at, *dir, *squares, *room),
-        Fact::DotOnEmpty { square } => push_dot(text, *square),
-        Fact::OtherLetter {
+        PlayFact::DotOnEmpty { square } => push_dot(text, *square),
+        PlayFact::OtherLetter {
             square,
             written,
             shown,
         } => push_other_letter(text, *square, *written, *shown),
-        Fact::ManyTiles { tiles } => push_too_many(text, *tiles),
-        Fact::TileBefore { square, letter } => push_beside(text, *square, *letter, "before"),
-        Fact::TileAfter { square, letter } => push_beside(text, *square, *letter, "after"),
-        _ => push_plain(text, fact),
+        PlayFact::NoNewTile => text.extend_from_slice(
+            b"Every square of the play already has a tile, so no tile is new.\n",
+        ),
+        PlayFact::ManyTiles { tiles } => push_too_many(text, *tiles),
+        PlayFact::TileBefore { square, letter } => push_beside(text, *square, *letter, "before"),
+        PlayFact::TileAfter { square, letter } => push_beside(text, *square, *letter, "after"),
+        PlayFact::NotWhole => text.extend_from_slice(b"The line has to name the whole word.\n"),
+        PlayFact::MissesCentre => text.extend_from_slice(
+            b"The first play of a game has to cover 8H, and this one does not.\n",
+        ),
+        PlayFact::TooShort => {
+            text.extend_from_slice(b"The play makes no word of two letters or more.\n")
+        }
+        PlayFact::Apart => text.extend_from_slice(
+            b"No tile of the play touches a tile that is already on the board.\n",
+        ),
     }
 }

@@ -1,7 +1,7 @@
-//! Racks that cannot be dealt.
+//! What is wrong with what the lines show of a rack or of a kind of tile.
 
 use crate::names::nick;
-use event_facts::{ClashLine, ExchangeLine, Fact, KindLine, Leaving, RackLine};
+use event_facts::{KindLine, Leaving, RackFact, RackLine};
 use gcg_read::{Players, Seat};
 use ref_tiles::{Counts, Kind};
 use sentence_parts::{Part, push_tiles, say, say_of_line};
@@ -152,75 +152,14 @@ fn push_kind_lines(
     Ok(())
 }
 
-/// Appends which tiles and lines already cannot be together.
-fn push_clash(
+/// Appends a fact about racks.
+pub fn push_rack_fact(
     text: &mut Vec<u8>,
     players: &Players,
-    lines: &[ClashLine],
+    fact: &RackFact,
 ) -> Result<(), AllocError> {
-    if lines.is_empty() {
-        return text.extend_from_slice(
-            b"Even if no rack were shown, no deal would give the plays and the exchanges.\n",
-        );
-    }
-    text.extend_from_slice(b"Even if only these tiles were shown, no deal would give them:\n")?;
-    for line in lines {
-        say_of_line(text, "  line ", line.line, " shows ")?;
-        push_tiles(text, &line.tiles)?;
-        say(
-            text,
-            &[
-                Part::Say(" on "),
-                Part::Raw(nick(players, line.player)),
-                Part::Say("'s rack\n"),
-            ],
-        )?;
-    }
-    Ok(())
-}
-
-/// Appends where tiles were exchanged.
-fn push_exchanges(
-    text: &mut Vec<u8>,
-    players: &Players,
-    exchanges: &[ExchangeLine],
-) -> Result<(), AllocError> {
-    text.extend_from_slice(b"Compare the racks with the exchanges:\n")?;
-    for exchange in exchanges {
-        say_of_line(text, "  line ", exchange.line, ": ")?;
-        say(
-            text,
-            &[
-                Part::Raw(nick(players, exchange.player)),
-                Part::Say(" exchanges "),
-                Part::Things(exchange.tiles, "tile"),
-                Part::Say("\n"),
-            ],
-        )?;
-    }
-    Ok(())
-}
-
-/// Appends that no deal gives the racks, what already cannot be together, and where tiles were exchanged.
-fn push_no_deal(
-    text: &mut Vec<u8>,
-    players: &Players,
-    clash: Option<&[ClashLine]>,
-    exchanges: &[ExchangeLine],
-) -> Result<(), AllocError> {
-    text.extend_from_slice(
-        b"No deal of the tiles gives the players the racks that the lines up to this one show, though no line alone shows too much.\n",
-    )?;
-    if let Some(lines) = clash {
-        push_clash(text, players, lines)?;
-    }
-    push_exchanges(text, players, exchanges)
-}
-
-/// Appends that a line shows a whole rack without tiles that the lines before it leave there.
-pub fn push_left_fact(text: &mut Vec<u8>, fact: &Fact) -> Result<(), AllocError> {
     match fact {
-        Fact::LeftOver {
+        RackFact::LeftOver {
             before,
             left,
             after,
@@ -236,18 +175,7 @@ pub fn push_left_fact(text: &mut Vec<u8>, fact: &Fact) -> Result<(), AllocError>
             };
             push_left_over(text, left, &lack)
         }
-        _ => Ok(()),
-    }
-}
-
-/// Appends a fact about racks.
-pub fn push_rack_fact(
-    text: &mut Vec<u8>,
-    players: &Players,
-    fact: &Fact,
-) -> Result<(), AllocError> {
-    match fact {
-        Fact::RackTooBig {
+        RackFact::TooBig {
             player,
             size,
             needed,
@@ -256,7 +184,7 @@ pub fn push_rack_fact(
             push_too_big(text, players, *player, *size, needed)?;
             push_rack_lines(text, lines.as_slice())
         }
-        Fact::TilesShort {
+        RackFact::TilesShort {
             kind,
             all,
             needed,
@@ -275,16 +203,5 @@ pub fn push_rack_fact(
             push_short(text, players, *kind, &many)?;
             push_kind_lines(text, players, lines.as_slice())
         }
-        Fact::DealtTo { line } => say_of_line(
-            text,
-            "Up to line ",
-            *line,
-            " a deal of the tiles gives the players every rack that is shown.\n",
-        ),
-        Fact::NoDeal { clash, exchanges } => {
-            let lines = clash.as_ref().map(|lines| lines.as_slice());
-            push_no_deal(text, players, lines, exchanges.as_slice())
-        }
-        _ => Ok(()),
     }
 }

@@ -1,7 +1,7 @@
 //! A play with another tile in one place: tiles that are not on the rack, one tile that was read as another, and a blank as a letter.
 
 use crate::spelling::push_words;
-use event_facts::{Fact, Spelled};
+use event_facts::{ReadingFact, Spelled};
 use ref_board::Square;
 use ref_tiles::{Counts, Kind};
 use sentence_parts::{Part, say};
@@ -135,21 +135,21 @@ fn push_misread(
 }
 
 /// Appends a fact about a play with another tile in one place.
-pub fn push_reading_fact(text: &mut Vec<u8>, fact: &Fact) -> Result<(), AllocError> {
+pub fn push_reading_fact(text: &mut Vec<u8>, fact: &ReadingFact) -> Result<(), AllocError> {
     match fact {
-        Fact::AsBlank {
+        ReadingFact::AsBlank {
             square,
             letter,
             score,
             ..
         } => push_as_blank(text, *square, *letter, *score),
-        Fact::NotOnRack {
+        ReadingFact::NotOnRack {
             kind,
             played,
             has,
             rack,
         } => push_not_on_rack(text, *kind, *played, *has, rack),
-        Fact::Misread {
+        ReadingFact::Misread {
             square,
             letter,
             read,
@@ -160,6 +160,5 @@ pub fn push_reading_fact(text: &mut Vec<u8>, fact: &Fact) -> Result<(), AllocErr
             push_misread(text, *square, *letter, *read, words.as_slice())?;
             push_scores(text, *score, *written)
         }
-        _ => Ok(()),
     }
 }

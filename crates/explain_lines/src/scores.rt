@@ -1,7 +1,7 @@
 //! A score that is not the right one, and where it would be right.
 
 use crate::names::nick;
-use event_facts::Fact;
+use event_facts::ScoreFact;
 use game_facts::Spot;
 use gcg_read::{Players, Seat};
 use ref_tiles::Counts;
@@ -97,23 +97,23 @@ fn push_spot(text: &mut Vec<u8>, spot: &Spot, k: usize, last: usize) -> Result<(
 pub fn push_score_fact(
     text: &mut Vec<u8>,
     players: &Players,
-    fact: &Fact,
+    fact: &ScoreFact,
 ) -> Result<(), AllocError> {
     match fact {
-        Fact::PlayScore { right, written } => {
+        ScoreFact::Play { right, written } => {
             push_score(text, "The play scores ", *right, *written)
         }
-        Fact::PassScore { right, written } => push_score(text, "A pass scores ", *right, *written),
-        Fact::ExchangeScore { right, written } => {
+        ScoreFact::Pass { right, written } => push_score(text, "A pass scores ", *right, *written),
+        ScoreFact::Exchange { right, written } => {
             push_score(text, "An exchange scores ", *right, *written)
         }
-        Fact::WithdrawalScore { right, written } => push_score(
+        ScoreFact::Withdrawal { right, written } => push_score(
             text,
             "A withdrawal takes the points of the play off again: it scores ",
             *right,
             *written,
         ),
-        Fact::LastRackScore {
+        ScoreFact::LastRack {
             player,
             is_doubled,
             tiles,
@@ -123,13 +123,12 @@ pub fn push_score_fact(
             push_last_rack(text, players, *player, *is_doubled, tiles)?;
             push_score(text, ": the score is ", *right, *written)
         }
-        Fact::OtherScore { right, written } => push_score(text, "The score is ", *right, *written),
-        Fact::ElsewhereScore {
+        ScoreFact::Other { right, written } => push_score(text, "The score is ", *right, *written),
+        ScoreFact::Elsewhere {
             written,
             spots,
             others,
         } => push_elsewhere(text, *written, spots.as_slice(), *others),
-        Fact::TotalFits { score, total } => push_fitting(text, *score, *total),
-        _ => Ok(()),
+        ScoreFact::TotalFits { score, total } => push_fitting(text, *score, *total),
     }
 }

@@ -1,19 +1,19 @@
 //! Events with more tiles than there are.
 
 use crate::names::nick;
-use event_facts::Fact;
+use event_facts::TileFact;
 use gcg_read::Players;
 use sentence_parts::{Part, say};
 use std::alloc::AllocError;
 
 /// Appends a fact about how many tiles there are.
-pub fn push_tiles_fact(
+pub fn push_tile_fact(
     text: &mut Vec<u8>,
     players: &Players,
-    fact: &Fact,
+    fact: &TileFact,
 ) -> Result<(), AllocError> {
     match fact {
-        Fact::TooManyUsed { player, used, has } => say(
+        TileFact::TooManyUsed { player, used, has } => say(
             text,
             &[
                 Part::Say("The play uses "),
@@ -25,7 +25,7 @@ pub fn push_tiles_fact(
                 Part::Say(" left.\n"),
             ],
         ),
-        Fact::ExchangeRefused { bag, least } => say(
+        TileFact::ExchangeRefused { bag, least } => say(
             text,
             &[
                 Part::Say("The bag has "),
@@ -35,7 +35,7 @@ pub fn push_tiles_fact(
                 Part::Say(" or more.\n"),
             ],
         ),
-        Fact::ExchangeSize {
+        TileFact::ExchangeSize {
             tiles,
             player,
             has,
@@ -53,7 +53,7 @@ pub fn push_tiles_fact(
                 Part::Say(".\n"),
             ],
         ),
-        Fact::LastRackSize { shown, holder, has } => say(
+        TileFact::LastRackSize { shown, holder, has } => say(
             text,
             &[
                 Part::Say("The last rack shows "),
@@ -65,6 +65,5 @@ pub fn push_tiles_fact(
                 Part::Say(".\n"),
             ],
         ),
-        _ => Ok(()),
     }
 }

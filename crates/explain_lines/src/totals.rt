@@ -1,7 +1,7 @@
 //! A total that is not the right one, and penalties for time.
 
 use crate::names::nick;
-use event_facts::Fact;
+use event_facts::TotalFact;
 use gcg_read::{Players, Seat};
 use sentence_parts::{Part, say};
 use std::alloc::AllocError;
@@ -89,10 +89,10 @@ fn push_second_time(
 pub fn push_total_fact(
     text: &mut Vec<u8>,
     players: &Players,
-    fact: &Fact,
+    fact: &TotalFact,
 ) -> Result<(), AllocError> {
     match fact {
-        Fact::WrongTotal {
+        TotalFact::Wrong {
             player,
             had,
             score,
@@ -107,12 +107,11 @@ pub fn push_total_fact(
             };
             push_total(text, players, *player, &total)
         }
-        Fact::LeavesOutOwn => {
+        TotalFact::LeavesOutOwn => {
             text.extend_from_slice(b"The written total leaves out the score of this line.\n")
         }
-        Fact::LeavesOut { line, score } => push_left_out(text, *line, *score),
-        Fact::TimeStep { step, written } => push_step(text, *step, *written),
-        Fact::SecondTime { player, line } => push_second_time(text, players, *player, *line),
-        _ => Ok(()),
+        TotalFact::LeavesOut { line, score } => push_left_out(text, *line, *score),
+        TotalFact::TimeStep { step, written } => push_step(text, *step, *written),
+        TotalFact::SecondTime { player, line } => push_second_time(text, players, *player, *line),
     }
 }

@@ -1,7 +1,7 @@
 //! Whose turn it is, and whether there are any more.
 
 use crate::names::nick;
-use event_facts::Fact;
+use event_facts::TurnFact;
 use gcg_read::{Players, Seat};
 use sentence_parts::{Part, say};
 use std::alloc::AllocError;
@@ -104,17 +104,16 @@ fn push_none_due(text: &mut Vec<u8>, limit: usize, turns: usize) -> Result<(), A
 pub fn push_turn_fact(
     text: &mut Vec<u8>,
     players: &Players,
-    fact: &Fact,
+    fact: &TurnFact,
 ) -> Result<(), AllocError> {
     match fact {
-        Fact::OthersTurn { player, other } => push_others_turn(text, players, *player, *other),
-        Fact::OthersLine { player, out } => push_others_line(text, players, *player, *out),
-        Fact::Complete => {
+        TurnFact::OthersTurn { player, other } => push_others_turn(text, players, *player, *other),
+        TurnFact::OthersLine { player, out } => push_others_line(text, players, *player, *out),
+        TurnFact::Complete => {
             text.extend_from_slice(b"The game is complete: the last racks are in.\n")
         }
-        Fact::Out { out, holder } => push_out(text, players, *out, *holder),
-        Fact::RackLost { player, holder } => push_rack_lost(text, players, *player, *holder),
-        Fact::NoRackDue { limit, turns } => push_none_due(text, *limit, *turns),
-        _ => Ok(()),
+        TurnFact::Out { out, holder } => push_out(text, players, *out, *holder),
+        TurnFact::RackLost { player, holder } => push_rack_lost(text, players, *player, *holder),
+        TurnFact::NoRackDue { limit, turns } => push_none_due(text, *limit, *turns),
     }
 }

@@ -1,8 +1,8 @@
-//! What is said of a record whose events the rules allow.
+//! What is said of a record as a whole.
 
 use crate::names::nick;
 use crate::spelling::{push_lines, push_words};
-use event_facts::{Fact, RackPart, UnlistedPlay};
+use event_facts::{GameFact, RackPart, UnlistedPlay};
 use gcg_read::Players;
 use sentence_parts::{Part, say};
 use std::alloc::AllocError;
@@ -122,22 +122,30 @@ fn push_racks(
     push_hidden(text, lines, turns)
 }
 
-/// Appends a fact about a record whose events the rules allow.
-pub fn push_whole_fact(
+/// Appends a fact about a record as a whole.
+pub fn push_game_fact(
     text: &mut Vec<u8>,
     players: &Players,
-    fact: &Fact,
+    fact: &GameFact,
 ) -> Result<(), AllocError> {
     match fact {
-        Fact::Unlisted { plays } => push_plays(text, players, plays.as_slice()),
-        Fact::OtherList => {
+        GameFact::NoEvent => {
+            text.extend_from_slice(b"The record has no event. Is it a game record?\n")
+        }
+        GameFact::Legal => text.extend_from_slice(
+            b"The rules allow every event, and a deal of the tiles gives the players every rack that is shown.\n",
+        ),
+        GameFact::Unsettled => text.extend_from_slice(
+            b"The rules allow every event. Neither a deal of the tiles that gives the players every rack that is shown was found, nor a proof that there is none.\n",
+        ),
+        GameFact::Unlisted { plays } => push_plays(text, players, plays.as_slice()),
+        GameFact::OtherList => {
             text.extend_from_slice(b"Perhaps the game was played with another word list.\n")
         }
-        Fact::RacksHidden {
+        GameFact::RacksHidden {
             lines,
             parts,
             turns,
         } => push_racks(text, lines.as_slice(), parts.as_slice(), *turns),
-        _ => Ok(()),
     }
 }

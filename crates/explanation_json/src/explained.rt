@@ -41,7 +41,7 @@ struct WordObject {
 
 /// The words of a play, and what they add up to.
 #[derive(Drop, Serialize)]
-struct PlayObject {
+struct ScoredPlayObject {
     words: Vec<WordObject>,
     bonus: Option<u32>,
     score: i32,
@@ -64,7 +64,7 @@ struct ExplanationObject<L> {
     explained: Option<u32>,
     text: Option<String>,
     facts: Vec<FactObject>,
-    play: Option<PlayObject>,
+    play: Option<ScoredPlayObject>,
     board: Option<BoardObject>,
     unknown_since: Option<u32>,
     likely: Option<L>,
@@ -136,7 +136,7 @@ fn word_objects(alloc: Global, words: &[PlayedWord]) -> Result<Vec<WordObject>, 
 }
 
 /// The words of a play and what they add up to, if there is a play.
-fn play_object(alloc: Global, shown: &Shown) -> Result<Option<PlayObject>, AllocError> {
+fn play_object(alloc: Global, shown: &Shown) -> Result<Option<ScoredPlayObject>, AllocError> {
     match &shown.play {
         None => Ok(None),
         Some(play) => Ok(Some(scored_object(alloc, play)?)),
@@ -144,8 +144,8 @@ fn play_object(alloc: Global, shown: &Shown) -> Result<Option<PlayObject>, Alloc
 }
 
 /// The words of a play, and what they add up to.
-fn scored_object(alloc: Global, play: &ScoredPlay) -> Result<PlayObject, AllocError> {
-    Ok(PlayObject {
+fn scored_object(alloc: Global, play: &ScoredPlay) -> Result<ScoredPlayObject, AllocError> {
+    Ok(ScoredPlayObject {
         words: word_objects(alloc, play.words.as_slice())?,
         bonus: play.bonus,
         score: play.score,
@@ -203,7 +203,7 @@ fn marked_names(alloc: Global, squares: &[ShownSquare]) -> Result<Vec<String>, A
 /// What is shown with the facts: the play, the board, or the line of the play that cannot be laid.
 #[derive(Drop)]
 struct PictureObjects {
-    play: Option<PlayObject>,
+    play: Option<ScoredPlayObject>,
     board: Option<BoardObject>,
     unknown_since: Option<u32>,
 }
@@ -233,7 +233,7 @@ fn picture_objects(alloc: Global, picture: &Option<Picture>) -> Result<PictureOb
 }
 
 /// What is said, fact by fact.
-fn fact_objects(alloc: Global, told: &Explanation<'_>) -> Result<Vec<FactObject>, AllocError> {
+fn fact_objects(alloc: Global, told: &Explanation) -> Result<Vec<FactObject>, AllocError> {
     let mut objects = Vec::new(alloc);
     for fact in told.facts.as_slice() {
         objects.push(fact_object(alloc, fact)?)?;
@@ -256,7 +256,7 @@ fn push_told<L: Serialize + Drop>(
     text: &mut Vec<u8>,
     verdict: &Verdict,
     written: Option<&[u8]>,
-    told: &Explanation<'_>,
+    told: &Explanation,
     likely: Option<L>,
     unread: &[UnreadLine],
 ) -> Result<(), AllocError> {
@@ -286,7 +286,7 @@ pub fn push_explained<L: Serialize + Drop>(
     text: &mut Vec<u8>,
     verdict: &Verdict,
     written: Option<&[u8]>,
-    told: Option<&Explanation<'_>>,
+    told: Option<&Explanation>,
     likely: Option<L>,
     unread: &[UnreadLine],
 ) -> Result<(), AllocError> {

@@ -7,7 +7,7 @@
 
 mod explained;
 mod fact_lines;
-mod fact_names;
+mod fact_parts;
 mod facts;
 mod squares;
 

@@ -11,6 +11,7 @@ use Rattle.game_turns.specs.Tallies.{State, withdraws, tally, tally_at}
 use Rattle.game_turns.specs.Places.{fault_at, AreAllowedTo, IsFirstRefusal, IsRefusedBefore}
 use Rattle.event_facts.specs.declared.facts.Fact.{Fact}
 use Rattle.event_facts.specs.declared.facts.Fact.TheVariants as fact
+use Rattle.event_facts.specs.declared.facts.rulings.RulingFact.TheVariants as ruling_fact
 use Rattle.event_facts.specs.FaultFacts.{begin_with}
 use Rattle.explanations.specs.Explaining.{SayTheRuling}
 
@@ -69,10 +70,10 @@ one_line rules list events line other why what a b =
     sym a.on_line ∙ ap (λ (e : Event). e.line) one ∙ b.on_line
 
 pub of_later : (rules : Rules) (list : List (List ℕ)) (events : List Event) (place line : ℕ) (why : RuleFault) (facts : List Fact) → IsRefusedBefore rules list events place line why
-    → facts ≡ fact.NotJudged line ∷ [] → SayTheRuling rules list events place facts
+    → facts ≡ fact.Ruling (ruling_fact.NotJudged line) ∷ [] → SayTheRuling rules list events place facts
 of_later rules list events place line why facts refused is =
     record {
       refused = λ other allowed fails. absurd (some_fault why (sym refused.first.fails ∙ allowed refused.first.place refused.before));
-      behind = λ on other later. is ∙ ap (λ (n : ℕ). fact.NotJudged n ∷ []) (one_line rules list events line on why other refused.first later.first);
+      behind = λ on other later. is ∙ ap (λ (n : ℕ). fact.Ruling (ruling_fact.NotJudged n) ∷ []) (one_line rules list events line on why other refused.first later.first);
       some = subst (λ (these : List Fact). 0 < length these) (sym is) (omega arith);
     }

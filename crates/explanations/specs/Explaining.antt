@@ -13,11 +13,13 @@ use Rattle.game_board.specs.Laying.{board_before, laying_fault}
 use Rattle.ref_play.specs.declared.faults.PlayFault.{PlayFault}
 use Rattle.event_facts.specs.declared.facts.Fact.{Fact}
 use Rattle.event_facts.specs.declared.facts.Fact.TheVariants as fact
+use Rattle.event_facts.specs.declared.facts.rulings.RulingFact.{RulingFact}
+use Rattle.event_facts.specs.declared.facts.rulings.RulingFact.TheVariants as ruling_fact
 use Rattle.shown_plays.specs.declared.words.ScoredPlay.{ScoredPlay}
 use Rattle.event_facts.specs.Moments.{Moment, IsMomentAt}
 use Rattle.event_facts.specs.Facts.{IsTrue}
 use Rattle.event_facts.specs.FaultFacts.{begin_with}
-use Rattle.event_facts.specs.Racks.{IsRackTrue}
+use Rattle.event_facts.specs.Facts.{IsTrueOfRacks}
 use Rattle.shown_plays.specs.Words.{IsScoredText}
 use Rattle.shown_plays.specs.Boards.{shown_squares}
 use Rattle.explanations.specs.declared.explaining.Explanation.{Explanation}
@@ -27,12 +29,16 @@ use Rattle.explanations.specs.declared.explaining.Shown.{Shown}
 
 -- ---- facts
 
--- what is true of the event at a place besides what the rules say of it: that an earlier event is the first that they refuse, that they allow
--- it and those before it, or what is wrong with the racks
+-- what is true of the event at a place where the rules do not refuse it: that an earlier event is the first that they refuse, or that they allow it and
+-- those before it
+abbrev pub IsRulingTrue : Rules → (list : List (List ℕ)) → List Event → (place : ℕ) → RulingFact → Type 0
+IsRulingTrue rules list events place (ruling_fact.NotJudged refused) = (why : RuleFault) × IsRefusedBefore rules list events place refused why
+IsRulingTrue rules list events place ruling_fact.Allowed = AreAllowedTo rules list events (place + 1)
+
+-- what is true of it besides why the rules refuse it: whether they allow it, or what is wrong with the racks
 abbrev pub IsTrueBeside : Rules → (list : List (List ℕ)) → List Event → (place : ℕ) → Fact → Type 0
-IsTrueBeside rules list events place (fact.NotJudged refused) = (why : RuleFault) × IsRefusedBefore rules list events place refused why
-IsTrueBeside rules list events place fact.Allowed = AreAllowedTo rules list events (place + 1)
-IsTrueBeside rules list events place rest = IsRackTrue rules (steps_of rules events) place rest
+IsTrueBeside rules list events place (fact.Ruling said) = IsRulingTrue rules list events place said
+IsTrueBeside rules list events place rest = IsTrueOfRacks rules (steps_of rules events) place rest
 
 -- a fact is true of the event at a place of a record, counted from 0
 abbrev pub IsTrueAt : Rules → (list : List (List ℕ)) → List Event → (place : ℕ) → Fact → Type 0
@@ -42,7 +48,7 @@ IsTrueAt rules list events place said = ((m : Moment) × IsMomentAt rules list e
 -- the rules refuse an earlier one, they say that it was not judged, and nothing else. There is always one.
 pub record SayTheRuling (rules : Rules) (list : List (List ℕ)) (events : List Event) (place : ℕ) (facts : List Fact) : Type 0 where
   pub refused : (why : RuleFault) → AreAllowedTo rules list events place → fault_at rules list events place ≡ Some why → begin_with why facts ≡ true
-  pub behind : (line : ℕ) (why : RuleFault) → IsRefusedBefore rules list events place line why → facts ≡ fact.NotJudged line ∷ []
+  pub behind : (line : ℕ) (why : RuleFault) → IsRefusedBefore rules list events place line why → facts ≡ fact.Ruling (ruling_fact.NotJudged line) ∷ []
   pub some : 0 < length facts
 
 -- ---- what is shown

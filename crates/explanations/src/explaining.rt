@@ -9,7 +9,7 @@ use call_stages::GameFault;
 use event_facts::Fact;
 use game_board::lay_plays;
 use game_rows::Walk;
-use gcg_read::{Event, EventKind, Players, Record};
+use gcg_read::{Event, EventKind, Record};
 use lex_list::WordList;
 use ref_board::Board;
 use ref_tiles::Rules;
@@ -41,9 +41,7 @@ pub enum Picture {
 
 /// What explains a record, or one of its lines.
 #[derive(Drop)]
-pub struct Explanation<'a> {
-    /// The players, by whose names the facts speak of them.
-    pub players: &'a Players,
+pub struct Explanation {
     /// The line of the event that is explained; none if it is the record as a whole.
     pub line: Option<u32>,
     /// What is said of it.
@@ -118,19 +116,18 @@ fn picture_at(
 ///
 /// It fails only if memory runs out.
 #[tactic(auto, using(crate::proofs::Refusing::read_at))]
-pub fn explain_event<'a>(
+pub fn explain_event(
     alloc: Global,
     rules: &Rules,
     list: &WordList,
-    record: &'a Record,
+    record: &Record,
     walk: &Walk,
     place: usize,
     fault: Option<&GameFault>,
-) -> Result<Explanation<'a>, AllocError>
+) -> Result<Explanation, AllocError>
     requires walk { IsWalkOf rules.now list.now record.now.events walk.now }
     requires within { place < length record.now.events }
-    ensures players { IfOk result (λ x. x.players.now ≡ record.now.players) }
-    ensures explains { IfOk result (ExplainsEvent rules.now list.now record.now.events place) }
+    ensures { IfOk result (ExplainsEvent rules.now list.now record.now.events place) }
 {
     let sheet = Sheet {
         rules,
@@ -144,7 +141,6 @@ pub fn explain_event<'a>(
     let facts = facts_at(alloc, &sheet, event, place)?;
     let picture = picture_at(alloc, rules, list, events, place, event)?;
     Ok(Explanation {
-        players: &record.players,
         line: Some(event.line),
         facts,
         picture: Some(picture),

@@ -3,10 +3,11 @@ ghost use Rattle.std.specs.Prelude.{◌≡◌, ◌+◌, ◌<◌, ◌++◌, ◌�
 ghost use Rattle.game_turns.specs.Machines.{state_of};
 ghost use Rattle.game_turns.specs.Tallies.{tally_at};
 ghost use Rattle.game_turns.specs.Places.{AreAllowedTo, IsRefusedBefore, fault_at};
-ghost use Rattle.event_facts.specs.Racks.{IsRackTrue};
+ghost use Rattle.event_facts.specs.Facts.{IsTrueOfRacks};
 ghost use Rattle.game_turns.specs.declared.faults.RuleFault.{RuleFault};
 ghost use Rattle.game_rows.specs.Walks.{IsWalkOf};
 ghost use Rattle.event_facts.specs.declared.facts.Fact.TheVariants as fact;
+ghost use Rattle.event_facts.specs.declared.facts.rulings.RulingFact.TheVariants as ruling_fact;
 ghost use Rattle.event_facts.specs.FaultFacts.{begin_with};
 ghost use Rattle.explanations.specs.Explaining.{IsTrueAt, SayTheRuling};
 
@@ -15,8 +16,8 @@ use crate::passing::passed_by;
 use call_stages::{Earlier, GameFault};
 use deal_steps::Step;
 use event_facts::{
-    Fact, Scene, dealt_to, left_over, no_deal, rack_too_big, rule_fault_facts, tell_rack_slip,
-    tiles_short,
+    Fact, RulingFact, Scene, dealt_to, left_over, no_deal, rack_too_big, rule_fault_facts,
+    tell_rack_slip, tiles_short,
 };
 use game_deal::all_steps;
 use game_rows::Walk;
@@ -50,7 +51,7 @@ fn rack_fact(
     place: usize,
     fault: &GameFault,
 ) -> Result<Option<Fact>, AllocError>
-    ensures { IfOk result (λ fact. IfSome fact (IsRackTrue rules.now steps.now place)) }
+    ensures { IfOk result (λ fact. IfSome fact (IsTrueOfRacks rules.now steps.now place)) }
 {
     match fault {
         GameFault::Rule(_) => Ok(None),
@@ -68,7 +69,7 @@ fn left_fact(
     place: usize,
     fault: &GameFault,
 ) -> Result<Option<Fact>, AllocError>
-    ensures { IfOk result (λ fact. IfSome fact (IsRackTrue rules.now steps.now place)) }
+    ensures { IfOk result (λ fact. IfSome fact (IsTrueOfRacks rules.now steps.now place)) }
 {
     if !matches!(fault, GameFault::RackTooBig) {
         return Ok(None);
@@ -84,7 +85,7 @@ fn dealt_fact(
     place: usize,
     fault: &GameFault,
 ) -> Result<Option<Fact>, AllocError>
-    ensures { IfOk result (λ fact. IfSome fact (IsRackTrue rules.now steps.now place)) }
+    ensures { IfOk result (λ fact. IfSome fact (IsTrueOfRacks rules.now steps.now place)) }
 {
     if !matches!(
         fault,
@@ -159,7 +160,7 @@ fn push_allowed(facts: &mut Vec<Fact>, sheet: &Sheet<'_>, place: usize) -> Resul
     ensures some { OnOk result (0 < length facts.new.items) }
 {
     if facts.is_empty() {
-        push_fact(facts, sheet, place, Fact::Allowed)?;
+        push_fact(facts, sheet, place, Fact::Ruling(RulingFact::Allowed))?;
         return Ok(());
     }
     Ok(())
@@ -244,7 +245,7 @@ fn allowed_facts(
     ensures some { IfOk result (λ facts. 0 < length facts.items) }
 {
     let Some(fault) = sheet.fault else {
-        let facts = one_fact(alloc, sheet, place, Fact::Allowed)?;
+        let facts = one_fact(alloc, sheet, place, Fact::Ruling(RulingFact::Allowed))?;
         return Ok(facts);
     };
     let mut facts = rack_slips(alloc, sheet, machine, event, place)?;
@@ -293,9 +294,14 @@ fn unjudged_facts(
 ) -> Result<Vec<Fact>, AllocError>
     requires { (why : RuleFault) × IsRefusedBefore sheet.now.rules.now sheet.now.list.now sheet.now.record.now.events place refused why }
     ensures told { IfOk result (λ facts. All (IsTrueAt sheet.now.rules.now sheet.now.list.now sheet.now.record.now.events place) facts.items) }
-    ensures are { IfOk result (λ facts. facts.items ≡ fact.NotJudged refused ∷ []) }
+    ensures are { IfOk result (λ facts. facts.items ≡ fact.Ruling (ruling_fact.NotJudged refused) ∷ []) }
 {
-    one_fact(alloc, sheet, place, Fact::NotJudged { refused })
+    one_fact(
+        alloc,
+        sheet,
+        place,
+        Fact::Ruling(RulingFact::NotJudged { refused }),
+    )
 }
 
 /// What is said of the event at a place.

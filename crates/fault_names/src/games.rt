@@ -4,6 +4,7 @@ ghost use Rattle.call_stages.specs.Reports.{rule_text, fault_text};
 ghost use Rattle.fault_names.specs.Named.{named_text};
 
 use crate::named::NamedFault;
+use crate::names::FaultName;
 use call_stages::GameFault;
 use game_turns::RuleFault;
 
@@ -12,21 +13,21 @@ fn named_rule_fault(fault: &RuleFault) -> NamedFault
     ensures { named_text result ≡ rule_text fault.now }
 {
     match fault {
-        RuleFault::NotYourTurn => NamedFault::bare("NotYourTurn"),
-        RuleFault::Play(why) => NamedFault::bare(why.name()),
-        RuleFault::WrongScore(expected) => NamedFault::expecting("WrongScore", *expected),
-        RuleFault::WrongTotal(expected) => NamedFault::expecting("WrongTotal", *expected),
-        RuleFault::NothingToWithdraw => NamedFault::bare("NothingToWithdraw"),
-        RuleFault::WithdrawnValid => NamedFault::bare("WithdrawnValid"),
-        RuleFault::BonusOnPhony => NamedFault::bare("BonusOnPhony"),
-        RuleFault::BadBonus => NamedFault::bare("BadBonus"),
-        RuleFault::ExchangeRefused => NamedFault::bare("ExchangeRefused"),
-        RuleFault::ExchangeSize => NamedFault::bare("ExchangeSize"),
-        RuleFault::GameOver => NamedFault::bare("GameOver"),
-        RuleFault::NotOver => NamedFault::bare("NotOver"),
-        RuleFault::LastRackSize => NamedFault::bare("LastRackSize"),
-        RuleFault::BadTime => NamedFault::bare("BadTime"),
-        RuleFault::TooManyUsed => NamedFault::bare("TooManyUsed"),
+        RuleFault::NotYourTurn => NamedFault::bare(FaultName::NotYourTurn),
+        RuleFault::Play(why) => NamedFault::bare(FaultName::Play(*why)),
+        RuleFault::WrongScore(expected) => NamedFault::expecting(FaultName::WrongScore, *expected),
+        RuleFault::WrongTotal(expected) => NamedFault::expecting(FaultName::WrongTotal, *expected),
+        RuleFault::NothingToWithdraw => NamedFault::bare(FaultName::NothingToWithdraw),
+        RuleFault::WithdrawnValid => NamedFault::bare(FaultName::WithdrawnValid),
+        RuleFault::BonusOnPhony => NamedFault::bare(FaultName::BonusOnPhony),
+        RuleFault::BadBonus => NamedFault::bare(FaultName::BadBonus),
+        RuleFault::ExchangeRefused => NamedFault::bare(FaultName::ExchangeRefused),
+        RuleFault::ExchangeSize => NamedFault::bare(FaultName::ExchangeSize),
+        RuleFault::GameOver => NamedFault::bare(FaultName::GameOver),
+        RuleFault::NotOver => NamedFault::bare(FaultName::NotOver),
+        RuleFault::LastRackSize => NamedFault::bare(FaultName::LastRackSize),
+        RuleFault::BadTime => NamedFault::bare(FaultName::BadTime),
+        RuleFault::TooManyUsed => NamedFault::bare(FaultName::TooManyUsed),
     }
 }
 
@@ -37,12 +38,12 @@ pub fn named_game_fault(fault: &GameFault) -> NamedFault
 {
     match fault {
         GameFault::Rule(rule) => named_rule_fault(rule),
-        GameFault::RackTooBig => NamedFault::bare("RackTooBig"),
+        GameFault::RackTooBig => NamedFault::bare(FaultName::RackTooBig),
         GameFault::TilesShort(kind) => NamedFault {
-            name: "TilesShort",
+            name: FaultName::TilesShort,
             expected: None,
             kind: Some(*kind),
         },
-        GameFault::NoDeal { .. } => NamedFault::bare("NoDeal"),
+        GameFault::NoDeal { .. } => NamedFault::bare(FaultName::NoDeal),
     }
 }

@@ -1,12 +1,13 @@
 //! A fault by its name.
 
+use crate::names::FaultName;
 use ref_tiles::Kind;
 
 /// A fault by its name, with what a report has after it.
 #[derive(Clone, Copy, Debug, PartialEq, Eq)]
 pub struct NamedFault {
-    /// The name, as reports print it.
-    pub name: &'static str,
+    /// The name.
+    pub name: FaultName,
     /// The number that was expected, if there is one.
     pub expected: Option<i32>,
     /// The kind of tile that is short, if there is one.
@@ -18,8 +19,8 @@ impl NamedFault {
     ghost use Rattle.fault_names.specs.Named.{IsBare};
 
     /// A fault of this name, with nothing after it.
-    pub(crate) fn bare(name: &'static str) -> NamedFault
-        ensures { IsBare name.now result }
+    pub(crate) fn bare(name: FaultName) -> NamedFault
+        ensures { IsBare name result }
     {
         NamedFault {
             name,
@@ -29,8 +30,8 @@ impl NamedFault {
     }
 
     /// A fault of this name, with the number that was expected.
-    pub(crate) fn expecting(name: &'static str, expected: i32) -> NamedFault
-        ensures name { result.name.now ≡ name.now }
+    pub(crate) fn expecting(name: FaultName, expected: i32) -> NamedFault
+        ensures name { result.name ≡ name }
         ensures expected { result.expected ≡ Some expected }
         ensures kind { result.kind ≡ None }
     {

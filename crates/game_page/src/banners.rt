@@ -53,7 +53,7 @@ fn push_first(page: &mut PageText, shown: &Shown<'_>) -> Result<(), AllocError> 
         return Ok(());
     }
     push_name(page, shown, Seat::First, "", " ")?;
-    push_total(page, shown.sheet.first_total)
+    push_total(page, shown.sheet().first_total)
 }
 
 /// Appends the second player's total and name, if the record names that player.
@@ -62,7 +62,7 @@ fn push_second(page: &mut PageText, shown: &Shown<'_>) -> Result<(), AllocError>
         return Ok(());
     }
     page.push(&[Piece::Markup(" <span>&ndash;</span> ")])?;
-    push_total(page, shown.sheet.second_total)?;
+    push_total(page, shown.sheet().second_total)?;
     push_name(page, shown, Seat::Second, " ", "")
 }
 
@@ -97,7 +97,7 @@ fn push_result(page: &mut PageText, shown: &Shown<'_>, lead: &[u8]) -> Result<()
     }
     page.push(&[
         Piece::Markup("<p class=\"result\">"),
-        Piece::Recorded(lead.trim_ascii_end(), shown.encoding),
+        Piece::Recorded(lead.trim_ascii_end(), shown.encoding()),
         Piece::Markup(".</p>\n"),
     ])
 }
@@ -106,7 +106,7 @@ fn push_result(page: &mut PageText, shown: &Shown<'_>, lead: &[u8]) -> Result<()
 fn push_written_result(page: &mut PageText, shown: &Shown<'_>) -> Result<(), AllocError> {
     let words = result_words(&shown.finding);
     page.push(&[Piece::Markup("<p class=\"result\">")])?;
-    match shown.sheet.standing {
+    match shown.sheet().standing {
         Standing::Even => page.push(&[Piece::Markup(words[3])])?,
         Standing::Ahead(seat, by) => page.push(&[
             Piece::Markup(words[0]),
@@ -121,37 +121,47 @@ fn push_written_result(page: &mut PageText, shown: &Shown<'_>) -> Result<(), All
     page.push(&[Piece::Markup("</p>\n")])
 }
 
-/// Appends what the record says under a name, if it says something.
+/// Appends what the record says under a name.
 fn push_own(
     page: &mut PageText,
     shown: &Shown<'_>,
     name: &'static str,
-    said: Option<&[u8]>,
+    said: &[u8],
+) -> Result<(), AllocError> {
+    page.push(&[
+        Piece::Markup("<p class=\"own\">"),
+        Piece::Markup(name),
+        Piece::Markup(" by the record: <q><bdi>"),
+        Piece::Recorded(said, shown.encoding()),
+        Piece::Markup("</bdi></q></p>\n"),
+    ])
+}
+
+/// Appends what the record says under a name, if it says something.
+fn push_said(
+    page: &mut PageText,
+    shown: &Shown<'_>,
+    name: &'static str,
+    said: &Option<Vec<u8>>,
 ) -> Result<(), AllocError> {
     match said {
-        Some(said) => page.push(&[
-            Piece::Markup("<p class=\"own\">"),
-            Piece::Markup(name),
-            Piece::Markup(" by the record: <q><bdi>"),
-            Piece::Recorded(said, shown.encoding),
-            Piece::Markup("</bdi></q></p>\n"),
-        ]),
+        Some(said) => push_own(page, shown, name, said.as_slice()),
         None => Ok(()),
     }
 }
 
 /// Appends the notes before the first event, and returns those after them.
-fn push_notes<'n, 'a>(
+fn push_notes<'a>(
     page: &mut PageText,
     shown: &Shown<'_>,
-    notes: &'n [Note<'a>],
-) -> Result<&'n [Note<'a>], AllocError> {
+    notes: &'a [Note],
+) -> Result<&'a [Note], AllocError> {
     let mut left = notes;
     for note in notes {
         if note.after > 0 {
             break;
         }
-        push_own(page, shown, "Note", Some(note.text))?;
+        push_own(page, shown, "Note", note.text.as_slice())?;
         left = match left {
             [_, rest @ ..] => rest,
             [] => left,
@@ -161,15 +171,12 @@ fn push_notes<'n, 'a>(
 }
 
 /// Appends what the record says of the game as a whole, and returns the notes of its events.
-fn push_words<'n, 'a>(
-    page: &mut PageText,
-    shown: &'n Shown<'a>,
-) -> Result<&'n [Note<'a>], AllocError> {
-    let words = &shown.words;
-    push_own(page, shown, "Title", words.title)?;
-    push_own(page, shown, "Event", words.event)?;
-    push_own(page, shown, "Description", words.description)?;
-    push_own(page, shown, "Lexicon", words.lexicon)?;
+fn push_words<'a>(page: &mut PageText, shown: &Shown<'a>) -> Result<&'a [Note], AllocError> {
+    let words = &shown.contents.words;
+    push_said(page, shown, "Title", &words.title)?;
+    push_said(page, shown, "Event", &words.event)?;
+    push_said(page, shown, "Description", &words.description)?;
+    push_said(page, shown, "Lexicon", &words.lexicon)?;
     push_notes(page, shown, words.notes.as_slice())
 }
 
@@ -210,7 +217,7 @@ fn push_numbers(page: &mut PageText, event: &Event) -> Result<(), AllocError> {
 
 /// Appends the faulty event, with a link to its row.
 fn push_faulty(page: &mut PageText, shown: &Shown<'_>) -> Result<(), AllocError> {
-    let Some(line) = shown.faulty.and_then(|place| shown.line_at(place)) else {
+    let Some(line) = shown.contents.faulty.and_then(|place| shown.line_at(place)) else {
         return Ok(());
     };
     push_link(page, &line)?;
@@ -220,7 +227,7 @@ fn push_faulty(page: &mut PageText, shown: &Shown<'_>) -> Result<(), AllocError>
 
 /// Appends the sum of the play that the verdict is about, if it is about one.
 fn push_fault_sum(page: &mut PageText, shown: &Shown<'_>) -> Result<(), AllocError> {
-    let Some(explanation) = &shown.explanation else {
+    let Some(explanation) = &shown.contents.explanation else {
         return Ok(());
     };
     let Some(Picture::Shown(picture)) = &explanation.picture else {
@@ -236,7 +243,7 @@ fn push_fault_sum(page: &mut PageText, shown: &Shown<'_>) -> Result<(), AllocErr
 fn push_line(page: &mut PageText, shown: &Shown<'_>) -> Result<(), AllocError> {
     page.push(&[
         Piece::Markup(box_of(&shown.finding)),
-        Piece::Text(shown.verdict.as_slice().trim_ascii_end()),
+        Piece::Text(shown.contents.verdict.as_slice().trim_ascii_end()),
         Piece::Markup("</h2>\n"),
     ])
 }
@@ -259,7 +266,7 @@ fn push_verdict(
 ) -> Result<(), AllocError> {
     push_line(page, shown)?;
     push_faulty(page, shown)?;
-    push_why(page, reason, shown.encoding)?;
+    push_why(page, reason, shown.encoding())?;
     push_fault_sum(page, shown)?;
     push_likely_words(page, shown, likely)?;
     page.push(&[Piece::Markup("</section>\n")])
@@ -284,13 +291,13 @@ fn push_back(page: &mut PageText, up: Option<usize>) -> Result<(), AllocError> {
 }
 
 /// Appends names, totals and result, what the record says of the game, the verdict and what explains it. Returns the notes of the events.
-pub fn push_banner<'n, 'a>(
+pub fn push_banner<'a>(
     page: &mut PageText,
-    shown: &'n Shown<'a>,
+    shown: &Shown<'a>,
     reason: &[u8],
     likely: &[u8],
     lead: &[u8],
-) -> Result<&'n [Note<'a>], AllocError> {
+) -> Result<&'a [Note], AllocError> {
     page.push(&[Piece::Markup("<header>\n")])?;
     push_back(page, shown.up)?;
     push_names(page, shown)?;

@@ -1,58 +1,62 @@
 //! Faults in a few words, for the index.
 
-/// A fault of a play in a few words, by its name; `None` for another name.
-fn play_fault_words(name: &str) -> Option<&'static str> {
-    match name {
-        "OffBoard" => Some("the play leaves the board"),
-        "Mismatch" => Some("the play does not agree with the board"),
-        "NoNewTile" => Some("the play has no new tile"),
-        "TooManyTiles" => Some("the play has more than seven new tiles"),
-        "NotWhole" => Some("the play is not the whole word"),
-        "MissesCentre" => Some("the first play misses the centre"),
-        "TooShort" => Some("the play makes no word"),
-        "Apart" => Some("the play touches no tile"),
-        "TooManyUsed" => Some("the play has more tiles than the player holds"),
-        "WrongScore" => Some("the score is wrong"),
-        "WrongTotal" => Some("the total is wrong"),
-        _ => None,
+use fault_names::FaultName;
+use gcg_read::Why;
+use ref_play::PlayFault;
+
+/// A fault of a play in a few words.
+fn play_words(why: &PlayFault) -> &'static str {
+    match why {
+        PlayFault::OffBoard => "the play leaves the board",
+        PlayFault::Mismatch => "the play does not agree with the board",
+        PlayFault::NoNewTile => "the play has no new tile",
+        PlayFault::TooManyTiles => "the play has more than seven new tiles",
+        PlayFault::NotWhole => "the play is not the whole word",
+        PlayFault::MissesCentre => "the first play misses the centre",
+        PlayFault::TooShort => "the play makes no word",
+        PlayFault::Apart => "the play touches no tile",
     }
 }
 
-/// A fault of another event or of the racks in a few words, by its name; `None` for another name.
-fn event_fault_words(name: &str) -> Option<&'static str> {
-    match name {
-        "NotYourTurn" => Some("it is the other player's turn"),
-        "NothingToWithdraw" => Some("there is no play to take back"),
-        "WithdrawnValid" => Some("the play that is taken back is valid"),
-        "BonusOnPhony" => Some("the challenged play is not valid"),
-        "BadBonus" => Some("the bonus of the challenge is wrong"),
-        "ExchangeRefused" => Some("the bag has too few tiles for an exchange"),
-        "ExchangeSize" => Some("more tiles are exchanged than there are"),
-        "GameOver" => Some("there are no more turns"),
-        "NotOver" => Some("the game does not end here"),
-        "LastRackSize" => Some("the last rack has the wrong number of tiles"),
-        "BadTime" => Some("the time penalty is wrong"),
-        "RackTooBig" => Some("the player has shown too many tiles"),
-        "TilesShort" => Some("more tiles of a kind are shown than there are"),
-        "NoDeal" => Some("no deal gives the racks"),
-        _ => None,
+/// Why a text is not a record in a few words; none if memory ran out, which its name says.
+fn record_words(why: &Why) -> Option<&'static str> {
+    match why {
+        Why::TooLong => Some("the file is too long"),
+        Why::TooManyEvents => Some("there are more than 1,000 events"),
+        Why::NoColon => Some("there is no colon behind the nickname"),
+        Why::ThirdPlayer => Some("the nickname is a third one"),
+        Why::Fields => Some("the line has too few or too many fields"),
+        Why::Rack => Some("the rack is not written as one"),
+        Why::Position => Some("the position is not written as one"),
+        Why::Word => Some("the word is not written as one"),
+        Why::Code => Some("the code is none that is known"),
+        Why::Number => Some("the score or the total is not a number"),
+        Why::NoMemory => None,
     }
 }
 
-/// A fault of a record in a few words, by its name; `None` for another name.
-fn record_fault_words(name: &str) -> Option<&'static str> {
+/// A fault in a few words, by its name; none if the name says it.
+fn name_words(name: &FaultName) -> Option<&'static str> {
     match name {
-        "TooLong" => Some("the file is too long"),
-        "TooManyEvents" => Some("there are more than 1,000 events"),
-        "NoColon" => Some("there is no colon behind the nickname"),
-        "ThirdPlayer" => Some("the nickname is a third one"),
-        "Fields" => Some("the line has too few or too many fields"),
-        "Rack" => Some("the rack is not written as one"),
-        "Position" => Some("the position is not written as one"),
-        "Word" => Some("the word is not written as one"),
-        "Code" => Some("the code is none that is known"),
-        "Number" => Some("the score or the total is not a number"),
-        _ => None,
+        FaultName::Play(why) => Some(play_words(why)),
+        FaultName::NotYourTurn => Some("it is the other player's turn"),
+        FaultName::WrongScore => Some("the score is wrong"),
+        FaultName::WrongTotal => Some("the total is wrong"),
+        FaultName::NothingToWithdraw => Some("there is no play to take back"),
+        FaultName::WithdrawnValid => Some("the play that is taken back is valid"),
+        FaultName::BonusOnPhony => Some("the challenged play is not valid"),
+        FaultName::BadBonus => Some("the bonus of the challenge is wrong"),
+        FaultName::ExchangeRefused => Some("the bag has too few tiles for an exchange"),
+        FaultName::ExchangeSize => Some("more tiles are exchanged than there are"),
+        FaultName::GameOver => Some("there are no more turns"),
+        FaultName::NotOver => Some("the game does not end here"),
+        FaultName::LastRackSize => Some("the last rack has the wrong number of tiles"),
+        FaultName::BadTime => Some("the time penalty is wrong"),
+        FaultName::TooManyUsed => Some("the play has more tiles than the player holds"),
+        FaultName::RackTooBig => Some("the player has shown too many tiles"),
+        FaultName::TilesShort => Some("more tiles of a kind are shown than there are"),
+        FaultName::NoDeal => Some("no deal gives the racks"),
+        FaultName::Record(why) => record_words(why),
     }
 }
 
@@ -64,14 +68,10 @@ fn name_in(fault: &str) -> &str {
     }
 }
 
-/// A fault in a few words, by its text; `None` if it is not one that has a name.
+/// A fault in a few words, by its text; none if it is not one that has a name, or if the name says it.
 pub fn fault_words(fault: &str) -> Option<&'static str> {
-    let name = name_in(fault);
-    if let Some(words) = play_fault_words(name) {
-        return Some(words);
+    match FaultName::of(name_in(fault)) {
+        Some(name) => name_words(&name),
+        None => None,
     }
-    if let Some(words) = event_fault_words(name) {
-        return Some(words);
-    }
-    record_fault_words(name)
 }

@@ -1,20 +1,8 @@
 //! The foot of a page: what it was made by.
 
+use page_answers::Maker;
 use page_pieces::{PageText, Piece};
 use std::alloc::AllocError;
-
-/// What a page was made by.
-#[derive(Clone, Copy)]
-pub struct Maker {
-    /// The name and the version of the program.
-    pub program: &'static str,
-    /// How many words the list has.
-    pub words: usize,
-    /// The SHA-256 of the bytes of the list.
-    pub list: [u8; 32],
-    /// The SHA-256 of the bytes of the rules text; `None` for the rules of the English game.
-    pub rules: Option<[u8; 32]>,
-}
 
 /// A byte as two digits from 0 to f.
 fn digits_of(byte: u8) -> [u8; 2] {

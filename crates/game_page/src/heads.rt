@@ -19,12 +19,12 @@ pub fn name_of<'a>(shown: &Shown<'_>, player: &'a Player) -> Piece<'a> {
     } else {
         full
     };
-    Piece::Recorded(name, shown.encoding)
+    Piece::Recorded(name, shown.encoding())
 }
 
 /// Appends the names of those players who have one.
 fn push_names(page: &mut PageText, shown: &Shown<'_>) -> Result<(), AllocError> {
-    let players = shown.sheet.players;
+    let players = &shown.game.players;
     let (first, second) = (&players.first, &players.second);
     if !is_named(second) {
         return page.push(&[name_of(shown, first)]);

@@ -1,6 +1,6 @@
 //! The index of the pages of many games.
-ghost use Rattle.std.specs.Prelude.{◌<◌};
 
+use crate::counts::{AnswerCounts, count_more, count_of, no_counts};
 use crate::faults::fault_words;
 use crate::heads::{push_start, push_style};
 use crate::orders::order_key;
@@ -77,7 +77,7 @@ pub struct Index {
     /// The rows, by what puts them in order.
     rows: BTreeMap<String, PageText>,
     /// How many games had each answer.
-    counts: [usize; 6],
+    counts: AnswerCounts,
 }
 
 impl Index {
@@ -85,7 +85,7 @@ impl Index {
     pub fn new(alloc: Global) -> Index {
         Index {
             rows: BTreeMap::new(alloc),
-            counts: [0; 6],
+            counts: no_counts(),
         }
     }
 
@@ -97,8 +97,7 @@ impl Index {
         if self.rows.insert(key, text).is_err() {
             return Err(AllocError);
         }
-        let place = place_of(row.answer);
-        self.counts[place] = self.counts[place].saturating_add(1);
+        self.counts = count_more(&self.counts, row.answer);
         Ok(())
     }
 
@@ -114,20 +113,6 @@ impl Index {
         }
         whole.extend_from_slice(b"</tbody>\n</table>\n</main>\n</body>\n</html>\n")?;
         Ok(whole)
-    }
-}
-
-/// The place of an answer among those that are counted.
-fn place_of(answer: Answer) -> usize
-    ensures { result < 6 }
-{
-    match answer {
-        Answer::Legal => 0,
-        Answer::Illegal => 1,
-        Answer::Unsettled => 2,
-        Answer::BadRecord => 3,
-        Answer::NoGame => 4,
-        Answer::Unread => 5,
     }
 }
 
@@ -168,7 +153,7 @@ fn push_count(page: &mut PageText, answer: Answer, many: usize) -> Result<(), Al
 }
 
 /// Appends the index up to its first row.
-fn push_head(page: &mut PageText, counts: &[usize; 6]) -> Result<(), AllocError> {
+fn push_head(page: &mut PageText, counts: &AnswerCounts) -> Result<(), AllocError> {
     push_start(page)?;
     page.push(&[Piece::Markup("Games")])?;
     push_style(page)?;
@@ -176,7 +161,7 @@ fn push_head(page: &mut PageText, counts: &[usize; 6]) -> Result<(), AllocError>
         "<body class=\"index\">\n<header>\n<h1>Games</h1>\n<ul class=\"counts\">\n",
     )])?;
     for answer in &ANSWERS {
-        push_count(page, *answer, counts[place_of(*answer)])?;
+        push_count(page, *answer, count_of(counts, *answer))?;
     }
     page.push(&[Piece::Markup(
         "</ul>\n</header>\n<main>\n<table class=\"sheet\">\n<thead>\n<tr><th>Game</th><th>Verdict</th><th>Player 1</th><th class=\"num\">Total</th><th>Player 2</th><th class=\"num\">Total</th><th>Result</th></tr>\n</thead>\n<tbody>\n",

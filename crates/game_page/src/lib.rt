@@ -1,13 +1,13 @@
 //! The page of a game: one HTML file with its verdict, its sheet, and the board after each event.
 //!
-//! [`shown_of`] makes what the page shows, a [`Shown`] with its score sheet and its verdict, and its contract says what that is;
-//! [`push_page`] writes it, with the sentences that its caller makes of it. A page has no script and loads nothing: links choose the row whose
-//! board is in view. It grows only by the pieces of [`page_pieces`], so what it has of a record cannot be markup. No contract says how it is laid
-//! out; `oracle/comparisons/compare_pages.py` tests that.
+//! [`push_page`] writes it from what `page_answers` has in a value, by way of a [`Shown`], with the sentences that its caller makes of it. A page has
+//! no script and loads nothing: links choose the row whose board is in view. It grows only by the pieces of [`page_pieces`], so what it has of a record
+//! cannot be markup. No contract says how it is laid out; `oracle/comparisons/compare_pages.py` tests that.
 #![tactic(auto)]
 
 mod banners;
 mod boards;
+mod counts;
 mod faults;
 mod feet;
 mod heads;
@@ -23,8 +23,6 @@ mod showing;
 mod styles;
 mod sums;
 
-pub use feet::Maker;
 pub use indexes::{Index, IndexPlayer, IndexRow};
-pub use likely::Likely;
-pub use pages::{Contents, push_page, shown_of};
+pub use pages::push_page;
 pub use showing::Shown;

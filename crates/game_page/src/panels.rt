@@ -43,7 +43,7 @@ fn event_before<'a>(shown: &Shown<'a>, place: usize) -> Option<&'a Event> {
 /// The event after a place, if there is one with a board.
 fn event_behind<'a>(shown: &Shown<'a>, place: usize) -> Option<&'a Event> {
     let next = place.checked_add(1)?;
-    if next < shown.sheet.boards.len() {
+    if next < shown.sheet().boards.len() {
         shown.event_at(next)
     } else {
         None
@@ -128,7 +128,7 @@ fn push_next_rack(page: &mut PageText, shown: &Shown<'_>, place: usize) -> Resul
     let nick = shown.player(event.player).nick.as_bytes();
     page.push(&[
         Piece::Markup("<p class=\"rack\"><span><bdi>"),
-        Piece::Recorded(nick, shown.encoding),
+        Piece::Recorded(nick, shown.encoding()),
         Piece::Markup("</bdi> to go:</span> "),
     ])?;
     push_tiles(page, rack)
@@ -182,7 +182,7 @@ fn push_position(
 
 /// Appends the link to the first position, if there is one.
 pub fn push_first(page: &mut PageText, shown: &Shown<'_>) -> Result<(), AllocError> {
-    if shown.sheet.boards.is_empty() {
+    if shown.sheet().boards.is_empty() {
         return Ok(());
     }
     let Some(event) = shown.event_at(0) else {

@@ -248,10 +248,10 @@ fn push_row(
 }
 
 /// Appends a note.
-fn push_note(page: &mut PageText, shown: &Shown<'_>, note: &Note<'_>) -> Result<(), AllocError> {
+fn push_note(page: &mut PageText, shown: &Shown<'_>, note: &Note) -> Result<(), AllocError> {
     page.push(&[
         Piece::Markup("<tr class=\"note\"><td colspan=\"8\"><bdi>"),
-        Piece::Recorded(note.text, shown.encoding),
+        Piece::Recorded(note.text.as_slice(), shown.encoding()),
         Piece::Markup("</bdi></td></tr>\n"),
     ])
 }
@@ -260,7 +260,7 @@ fn push_note(page: &mut PageText, shown: &Shown<'_>, note: &Note<'_>) -> Result<
 fn push_notes(
     page: &mut PageText,
     shown: &Shown<'_>,
-    notes: &[Note<'_>],
+    notes: &[Note],
     from: usize,
     events: usize,
 ) -> Result<usize, AllocError> {
@@ -297,7 +297,7 @@ fn push_gains(
 
 /// Appends how much more the best plays would have given, by player.
 fn push_sums(page: &mut PageText, shown: &Shown<'_>) -> Result<(), AllocError> {
-    let sheet = &shown.sheet;
+    let sheet = shown.sheet();
     page.push(&[Piece::Markup(
         "</tbody>\n</table>\n<p class=\"sums\">The best plays would have given more: ",
     )])?;
@@ -314,7 +314,7 @@ fn push_place(
     page: &mut PageText,
     shown: &Shown<'_>,
     columns: Columns,
-    notes: &[Note<'_>],
+    notes: &[Note],
     from: usize,
     place: usize,
 ) -> Result<usize, AllocError> {
@@ -326,15 +326,11 @@ fn push_place(
 }
 
 /// Appends the sheet: a row for each event with the position after it, and the notes of the event.
-pub fn push_rows(
-    page: &mut PageText,
-    shown: &Shown<'_>,
-    notes: &[Note<'_>],
-) -> Result<(), AllocError> {
-    let columns = columns_of(shown.sheet.rows.as_slice());
+pub fn push_rows(page: &mut PageText, shown: &Shown<'_>, notes: &[Note]) -> Result<(), AllocError> {
+    let columns = columns_of(shown.sheet().rows.as_slice());
     push_heading(page, columns)?;
     let mut next = 0;
-    for place in 0..shown.sheet.events.len() {
+    for place in 0..shown.game.events.len() {
         next = push_place(page, shown, columns, notes, next, place)?;
     }
     push_sums(page, shown)

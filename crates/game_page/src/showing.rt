@@ -1,69 +1,84 @@
-//! What a page shows, as plain data.
+//! What a page shows of a record, as its parts are written from it.
 
-use crate::feet::Maker;
-use crate::likely::Likely;
 use crate::lines::Line;
-use explanations::Explanation;
 use game_case::Finding;
-use gcg_read::{Event, Player, Seat};
+use gcg_read::{Event, Player, Record, Seat};
 use name_texts::Encoding;
-use record_words::RecordWords;
+use page_answers::{Maker, PageContents, PageSheet, PagedCase};
 use ref_tiles::Rules;
-use score_sheets::ScoreSheet;
 
-/// What a page shows: the sheet of a record, the verdict on it, and what it was made by.
-#[derive(Drop)]
+/// What a page shows of a record.
+#[derive(Clone, Copy)]
 pub struct Shown<'a> {
     /// The rules, for the premiums of the squares and the points of the tiles.
     pub rules: &'a Rules,
-    /// The sheet.
-    pub sheet: ScoreSheet<'a>,
-    /// What the record says in words in addition to its events.
-    pub words: RecordWords<'a>,
-    /// How names are read.
-    pub encoding: Encoding,
-    /// What is found of the record.
+    /// The record.
+    pub game: &'a Record,
+    /// What is found of it.
     pub finding: Finding,
-    /// The place of the faulty event, if there is one.
-    pub faulty: Option<usize>,
-    /// The line with the verdict.
-    pub verdict: Vec<u8>,
-    /// What explains it, with the words of the play.
-    pub explanation: Option<Explanation<'a>>,
-    /// The likely repair of the record, if there is one.
-    pub likely: Option<Likely>,
-    /// How many folders above the page its index is, if it has one.
-    pub up: Option<usize>,
+    /// What is shown of it.
+    pub contents: &'a PageContents,
     /// What the page is made by.
     pub maker: &'a Maker,
+    /// How many folders above the page its index is, if it has one.
+    pub up: Option<usize>,
 }
 
 impl<'a> Shown<'a> {
+    /// What the page of a case shows, with its index so many folders above it, if it has one; none if the text of the case is not a record.
+    pub fn of(paged: &'a PagedCase, up: Option<usize>) -> Option<Shown<'a>> {
+        let Ok(entry) = &paged.case.read else {
+            return None;
+        };
+        let Some(contents) = &paged.contents else {
+            return None;
+        };
+        Some(Shown {
+            rules: &paged.rules,
+            game: &entry.record,
+            finding: entry.finding,
+            contents,
+            maker: &paged.maker,
+            up,
+        })
+    }
+
+    /// How names are read.
+    pub fn encoding(&self) -> Encoding {
+        self.contents.encoding
+    }
+
+    /// The score sheet.
+    pub fn sheet(&self) -> &'a PageSheet {
+        &self.contents.sheet
+    }
+
     /// The player of a seat.
     pub fn player(&self, seat: Seat) -> &'a Player {
         match seat {
-            Seat::First => &self.sheet.players.first,
-            Seat::Second => &self.sheet.players.second,
+            Seat::First => &self.game.players.first,
+            Seat::Second => &self.game.players.second,
         }
     }
 
     /// The event at a place, if there is one.
     pub fn event_at(&self, place: usize) -> Option<&'a Event> {
-        self.sheet.events.get(place)
+        self.game.events.as_slice().get(place)
     }
 
     /// The line of the event at a place, if there is one.
-    pub fn line_at(&self, place: usize) -> Option<Line<'_>> {
-        let event = self.sheet.events.get(place)?;
-        let row = self.sheet.rows.as_slice().get(place)?;
+    pub fn line_at(&self, place: usize) -> Option<Line<'a>> {
+        let event = self.event_at(place)?;
+        let sheet = self.sheet();
+        let row = sheet.rows.as_slice().get(place)?;
         Some(Line {
-            encoding: self.encoding,
+            encoding: self.encoding(),
             player: self.player(event.player),
             event,
             row,
-            picture: self.sheet.boards.as_slice().get(place),
-            position: self.sheet.positions.as_slice().get(place),
-            is_faulty: self.faulty == Some(place),
+            picture: sheet.boards.as_slice().get(place),
+            position: sheet.positions.as_slice().get(place),
+            is_faulty: self.contents.faulty == Some(place),
         })
     }
 }

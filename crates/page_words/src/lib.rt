@@ -1,9 +1,10 @@
-//! What the page of a game says in sentences.
+//! The page of a case as HTML: its parts (`game_page`), with what it says in sentences.
 //!
-//! [`sentences_of`] makes the sentences from what the page shows, for its caller to hand to the page. The page has them as they are, and
-//! depends on none of the crates that put something into words.
+//! [`page_text`] writes it from the value that `page_answers` makes, and computes nothing. The sentences are those of `explain`, of `repair` and of
+//! `audit`.
 #![tactic(auto)]
 
+mod pages;
 mod sentences;
 
-pub use sentences::{Sentences, sentences_of};
+pub use pages::{page_text, push_paged};

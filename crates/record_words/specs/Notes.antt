@@ -11,7 +11,7 @@ pub record NoteText : Type 0 where
 
 -- what contracts see of a note
 abbrev pub note_in : Note → NoteText
-note_in note = record { after = note.after; text = note.text.now }
+note_in note = record { after = note.after; text = note.text.items }
 
 abbrev pub note_by : (after : ℕ) → Option (List ℕ) → List NoteText
 note_by after None = []

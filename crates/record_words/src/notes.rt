@@ -8,12 +8,12 @@ use std::alloc::{AllocError, Global};
 use text_lines::Lines;
 
 /// A note of a record.
-#[derive(Clone, Copy)]
-pub struct Note<'a> {
+#[derive(Drop)]
+pub struct Note {
     /// How many lines of events are before it: it goes with the last of them.
     pub after: usize,
     /// What it says.
-    pub text: &'a [u8],
+    pub text: Vec<u8>,
 }
 
 /// Whether a line is that of an event.
@@ -34,23 +34,30 @@ fn behind(after: usize, line: &[u8]) -> usize
 }
 
 /// Adds the note of a line, if it is one.
-fn push_note<'a>(notes: &mut Vec<Note<'a>>, after: usize, line: &'a [u8]) -> Result<(), AllocError>
+fn push_note(
+    alloc: Global,
+    notes: &mut Vec<Note>,
+    after: usize,
+    line: &[u8],
+) -> Result<(), AllocError>
     ensures { OnOk result (map note_in notes.new.items ≡ map note_in notes.old.items ++ note_on after line.now) }
 {
-    if let Some(text) = said(b"#note", line) {
-        notes.push(Note { after, text })?;
-    }
+    let Some(text) = said(b"#note", line) else {
+        return Ok(());
+    };
+    let text = Vec::from_slice(alloc, text)?;
+    notes.push(Note { after, text })?;
     Ok(())
 }
 
 /// The notes of a text, in their order.
-pub fn notes_of<'a>(alloc: Global, text: &'a [u8]) -> Result<Vec<Note<'a>>, AllocError>
+pub fn notes_of(alloc: Global, text: &[u8]) -> Result<Vec<Note>, AllocError>
     ensures { IfOk result (λ notes. map note_in notes.items ≡ notes_from 0 (lines_in text.now)) }
 {
     let mut notes = Vec::new(alloc);
     let mut after = 0;
     for line in Lines::of(text) {
-        push_note(&mut notes, after, line)?;
+        push_note(alloc, &mut notes, after, line)?;
         after = behind(after, line);
     }
     Ok(notes)

@@ -1,22 +1,19 @@
 //! What the program does: it parses the command line as a request, carries it out, and says what kept it from finishing.
 
+use answer_commands::{answer_game, board_in_json, check_in_json};
 use archive_commands::{archive, index};
 use call_stages::Verdict;
 use clap::Error;
 use clap::error::ErrorKind;
 use command_files::{STANDARD_OUTPUT, write};
 use command_line::{
-    CaseTask, GameFiles, GameRequest, PROGRAM_NAME, PairFiles, Request, SheetTask, mistake,
-    parse_arguments,
+    GameFiles, GameRequest, PROGRAM_NAME, PairFiles, Request, mistake, parse_arguments,
 };
-use engine::Judging;
 use exit_statuses::{Exit, Trouble};
 use game_commands::{board, build, check, convert, judge, tidy, top, word};
-use json_commands::{AnswerTask, answer_in_json, board_in_json, check_in_json, top_in_json};
 use lost_inputs::{input_under_pages, lost_input};
 use ref_tiles::ENGLISH_TEXT;
 use serve_commands::serve;
-use sheet_commands::answer_sheet;
 use std::alloc::AllocError;
 use std::rt::Runtime;
 use std::{env, io};
@@ -137,50 +134,18 @@ fn carry_out<'a, R: Runtime + AllocGlobal>(
     }
 }
 
-/// Carries out a request about the game of a record: answers in text, or with a JSON object.
+/// Carries out a request about the game of a record: answers in text, or with a JSON object. Without an object, `judge` and `top` are calls of their own.
 fn answer_about_game<'a, R: Runtime + AllocGlobal>(
     rt: &R,
     files: GameFiles<'a>,
     request: GameRequest<'a>,
     json: bool,
 ) -> Result<Exit, Trouble<'a>> {
-    if json {
-        answer_in_object(rt, files, request)
-    } else {
-        answer_in_text(rt, files, request)
-    }
-}
-
-/// Carries out a request for a text about the game of a record.
-fn answer_in_text<'a, R: Runtime + AllocGlobal>(
-    rt: &R,
-    files: GameFiles<'a>,
-    request: GameRequest<'a>,
-) -> Result<Exit, Trouble<'a>> {
     match request {
-        GameRequest::Judge { settle } => ended(judge(rt, settle, files)),
-        GameRequest::Top(plays) => ended(top(rt, files, plays)),
-        GameRequest::Sheet(task) => answer_sheet(rt, files, task),
+        GameRequest::Judge { settle } if !json => ended(judge(rt, settle, files)),
+        GameRequest::Top(plays) if !json => ended(top(rt, files, plays)),
+        _ => answer_game(rt, files, request, json),
     }
-}
-
-/// Carries out a request for a JSON object about the game of a record. A command that has no object answers in text.
-fn answer_in_object<'a, R: Runtime + AllocGlobal>(
-    rt: &R,
-    files: GameFiles<'a>,
-    request: GameRequest<'a>,
-) -> Result<Exit, Trouble<'a>> {
-    let task = match request {
-        GameRequest::Judge { settle } => AnswerTask::Judge(judging(settle)),
-        GameRequest::Top(plays) => return top_in_json(rt, files, plays),
-        GameRequest::Sheet(SheetTask::Audit(_)) => AnswerTask::Audit,
-        GameRequest::Sheet(SheetTask::Case(CaseTask::Explain(line))) => AnswerTask::Explain(line),
-        GameRequest::Sheet(SheetTask::Case(CaseTask::Repair(number, _))) => {
-            AnswerTask::Repair(number)
-        }
-        GameRequest::Sheet(task) => return answer_sheet(rt, files, task),
-    };
-    answer_in_json(rt, files, task)
 }
 
 /// Checks a lexicon by its word list: answers in text, or with a JSON object.
@@ -208,15 +173,6 @@ fn show_board<'a, R: Runtime + AllocGlobal>(
         board_in_json(rt, rules, before, game)
     } else {
         ended(board(rt, rules, before, game))
-    }
-}
-
-/// How a game is judged, with a search or without.
-fn judging(settle: bool) -> Judging {
-    if settle {
-        Judging::BySearch
-    } else {
-        Judging::ByRule
     }
 }
 

@@ -49,11 +49,13 @@ fn repair_objects(
     record: &Record,
     faulty: &Faulty,
 ) -> Result<Vec<RepairObject>, AllocError> {
+    let players = &record.players;
+    let events = record.events.as_slice();
     let repairs = faulty.found.told.as_slice();
     let mut objects = Vec::new(alloc);
     for told in faulty.lines.as_slice() {
         if let Some(repair) = repairs.get(told.first) {
-            objects.push(repair_object(alloc, record, repairs, repair, told)?)?;
+            objects.push(repair_object(alloc, players, events, repairs, repair, told)?)?;
         }
     }
     Ok(objects)

@@ -127,12 +127,12 @@ fn other_lines(
 /// A repair, with those that share its line.
 pub(crate) fn repair_object(
     alloc: Global,
-    record: &Record,
+    players: &Players,
+    events: &[Event],
     repairs: &[Repair],
     repair: &Repair,
     told: &Told,
 ) -> Result<RepairObject, AllocError> {
-    let events = record.events.as_slice();
     let change = &repair.listed.change;
     let spot = spot_of(events, change);
     let numbers = numbers_with(&change.slip, events.len());
@@ -141,8 +141,8 @@ pub(crate) fn repair_object(
         line: line_in(spot),
         slip: slip_name(&change.slip),
         replaces: replaced_lines(alloc, events, change)?,
-        lines: right_lines(alloc, &record.players, change, repair.right.as_slice())?,
-        others: other_lines(alloc, &record.players, repairs, told.others.as_slice())?,
+        lines: right_lines(alloc, players, change, repair.right.as_slice())?,
+        others: other_lines(alloc, players, repairs, told.others.as_slice())?,
         weight: weight_of(&change.slip),
         cost: repair.remains.cost(&change.slip),
         evidence: evidence_object(alloc, &repair.remains, numbers)?,
@@ -157,11 +157,23 @@ pub fn single_object(
     record: &Record,
     repair: &Repair,
 ) -> Result<RepairObject, AllocError> {
+    object_by_events(alloc, &record.players, record.events.as_slice(), repair)
+}
+
+/// A single repair of these events.
+///
+/// It fails only if memory runs out.
+pub fn object_by_events(
+    alloc: Global,
+    players: &Players,
+    events: &[Event],
+    repair: &Repair,
+) -> Result<RepairObject, AllocError> {
     let told = Told {
         first: 0,
         others: Vec::new(alloc),
     };
-    repair_object(alloc, record, &[], repair, &told)
+    repair_object(alloc, players, events, &[], repair, &told)
 }
 
 /// A slip of the whole sheet that repairs a record, as a single repair: the lines of the sheet that it changes, and the right lines.

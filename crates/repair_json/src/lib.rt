@@ -15,4 +15,4 @@ mod slip_names;
 
 pub use answers::{push_no_game, push_repair_answer};
 pub use bad_records::push_bad_repairs;
-pub use changes::{RepairObject, single_object, whole_object};
+pub use changes::{RepairObject, object_by_events, single_object, whole_object};

@@ -79,3 +79,19 @@ HasBest rules tried (Some b) = IsBest rules tried b
 pub record AreRepaired (rules : Rules) (list : List (List ℕ)) (s : Sheets) (f : Find) (r : RepairedChoices) : Type 0 where
   pub tried : AreTried rules list s f r.tried.items
   pub best : HasBest rules r.tried.items r.best
+
+abbrev pub choice_of : (tried : List RepairedChoice) → Option BestRepair → Option RepairedChoice
+choice_of tried None = None
+choice_of tried (Some b) = slice_get tried b.index
+
+-- the choice with the cheapest repair, if there is one
+abbrev pub best_choice : RepairedChoices → Option RepairedChoice
+best_choice r = choice_of r.tried.items r.best
+
+abbrev pub repair_of : Option RepairedChoice → Option Repair
+repair_of None = None
+repair_of (Some r) = first_of r
+
+-- the cheapest repair, if there is one
+abbrev pub best_repair : RepairedChoices → Option Repair
+best_repair r = repair_of (best_choice r)

@@ -49,8 +49,12 @@ pub(crate) fn first_of(choice: &RepairedChoice) -> Option<&Repair>
 }
 
 impl RepairedChoices {
+    ghost use Rattle.repaired_choices.specs.Repaired.{best_choice, best_repair};
+
     /// The choice with the cheapest repair, if there is one.
-    pub fn best_choice(&self) -> Option<&RepairedChoice> {
+    pub fn best_choice(&self) -> Option<&RepairedChoice>
+        ensures { option_copied result ≡ best_choice self.now }
+    {
         match &self.best {
             Some(best) => self.tried.as_slice().get(best.index),
             None => None,
@@ -58,7 +62,9 @@ impl RepairedChoices {
     }
 
     /// The cheapest repair, if there is one.
-    pub fn best_repair(&self) -> Option<&Repair> {
+    pub fn best_repair(&self) -> Option<&Repair>
+        ensures { option_copied result ≡ best_repair self.now }
+    {
         match self.best_choice() {
             Some(choice) => first_of(choice),
             None => None,

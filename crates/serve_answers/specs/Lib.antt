@@ -1,5 +1,12 @@
 pub mod Given
 pub mod PlainGames
+pub mod Annotated
+pub mod Audited
+pub mod Compared
+pub mod Explained
+pub mod ReadSheets
+pub mod Repaired
+pub mod Exits
 pub mod Plays
 pub mod Tidied
 pub mod Words

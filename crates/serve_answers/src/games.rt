@@ -27,7 +27,7 @@ pub fn judged(
     alloc: Global,
     rules: &Rules,
     pair: &Checked<'_>,
-    game: &str,
+    game: &[u8],
     question: Judging,
     known: &mut KnownBests,
 ) -> Result<Result<JudgedGame, Decision>, RunFault>
@@ -46,7 +46,7 @@ pub fn judged_plainly(
     alloc: Global,
     rules: &Rules,
     pair: &Checked<'_>,
-    game: &str,
+    game: &[u8],
     question: Judging,
 ) -> Result<Result<JudgedGame, Decision>, RunFault>
     ensures found { IfOk result (IsPlainGameOf question rules.now (list_in pair.now) (read_of game.now)) }
@@ -62,7 +62,7 @@ pub fn audited(
     alloc: Global,
     rules: &Rules,
     pair: &Checked<'_>,
-    game: &str,
+    game: &[u8],
 ) -> Result<Result<AuditAnswer, Decision>, RunFault>
     ensures found { IfOk result (IsAuditAnswerOf rules.now (list_in pair.now) (read_of game.now)) }
     ensures memory { FailsForMemoryAlone result }
@@ -77,7 +77,7 @@ pub fn case_in(
     alloc: Global,
     rules: &Rules,
     pair: &Checked<'_>,
-    game: &str,
+    game: &[u8],
 ) -> Result<Case, RunFault>
     ensures found { IfOk result (IsCaseOf rules.now (list_in pair.now) (read_of game.now)) }
     ensures memory { FailsForMemoryAlone result }
@@ -91,7 +91,7 @@ pub fn case_in(
 pub fn board_in(
     alloc: Global,
     rules: &Rules,
-    game: &str,
+    game: &[u8],
     line: Option<u32>,
 ) -> Result<Result<Option<ShownBoard>, Decision>, RunFault>
     ensures found { IfOk result (IsBoardOf rules.now line (read_of game.now)) }

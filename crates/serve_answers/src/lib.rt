@@ -4,15 +4,31 @@
 //! reply is, by only these and the request, in the words of the command's own contract.
 #![tactic(auto)]
 
+mod annotated;
+mod audited;
+mod compared;
+mod exits;
+mod explained;
 mod games;
+mod judges;
+mod paged;
 mod plain_games;
 mod plays;
+mod printed;
+mod read_sheets;
 mod records;
+mod repaired;
 mod replies;
 mod tidying;
-mod told_cases;
 mod words;
 
+pub use audited::AuditedSheet;
+pub use compared::{BadSheet, BothCompared, SheetsFound};
+pub use exits::exit_of_reply;
+pub use explained::ExplainedCase;
+pub use judges::Judges;
+pub use printed::Printed;
+pub use read_sheets::{JudgedSheet, ShownSheet};
+pub use repaired::RepairedCase;
 pub use replies::{Reply, reply_to};
-pub use told_cases::ToldCase;
 pub use words::Ruled;

@@ -62,7 +62,7 @@ fn plays_by(
     alloc: Global,
     rules: &Rules,
     pair: &Checked<'_>,
-    game: &str,
+    game: &[u8],
     question: &TurnPlays,
 ) -> Result<Result<FoundPlays, Decision>, RunFault>
     ensures found { IfOk result (AreTopPlaysOf question.now.number question.now.before rules.now (list_in pair.now) question.now.rack (read_of game.now)) }
@@ -78,7 +78,7 @@ pub fn plays_in(
     alloc: Global,
     rules: &Rules,
     pair: &Checked<'_>,
-    game: &str,
+    game: &[u8],
     line: Option<u32>,
     rack: Option<&str>,
     number: Option<u32>,

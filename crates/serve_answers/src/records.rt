@@ -14,12 +14,10 @@ impl<'a> GivenRecord<'a> {
     ghost use Rattle.serve_answers.specs.Given.{device_of};
 
     /// The record of this text, of which nothing was read yet.
-    pub fn new(game: &'a str) -> GivenRecord<'a>
+    pub fn new(game: &'a [u8]) -> GivenRecord<'a>
         ensures { ⟦<GivenRecord<'a> as Input>⟧.device result ≡ device_of game.now }
     {
-        GivenRecord {
-            left: game.as_bytes(),
-        }
+        GivenRecord { left: game }
     }
 }
 

@@ -38,7 +38,7 @@ fn tidied_from(alloc: Global, text: &[u8]) -> Result<Decision, AllocError>
 
 /// The bytes that are read of a record.
 #[tactic(auto, using(crate::proofs::Reading::text_read))]
-fn bytes_read(alloc: Global, game: &str) -> Result<Vec<u8>, RunFault>
+pub fn bytes_read(alloc: Global, game: &[u8]) -> Result<Vec<u8>, RunFault>
     ensures text { IfOk result (λ text. text.items ≡ read_of game.now) }
     ensures memory { FailsForMemoryAlone result }
 {
@@ -48,7 +48,7 @@ fn bytes_read(alloc: Global, game: &str) -> Result<Vec<u8>, RunFault>
 
 /// The normal form of a record, or the verdict that it is not one: what `tidy` writes.
 #[tactic(auto, using(crate::proofs::TidyLaws::of_read))]
-pub fn tidied(alloc: Global, game: &str) -> Result<Decision, RunFault>
+pub fn tidied(alloc: Global, game: &[u8]) -> Result<Decision, RunFault>
     ensures tidied { IfOk result (IsTidiedOf (read_of game.now)) }
     ensures memory { FailsForMemoryAlone result }
 {

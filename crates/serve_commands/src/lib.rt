@@ -8,6 +8,5 @@ mod answering;
 mod lines;
 mod serving;
 mod telling;
-mod words;
 
 pub use serving::serve;

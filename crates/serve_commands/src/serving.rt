@@ -4,7 +4,6 @@ ghost use Rattle.lex_check.specs.Pairs.{list_in};
 ghost use Rattle.known_bests.specs.Known.{AreKnown};
 ghost use Rattle.serve_commands.specs.Telling.{AreServed, served_later};
 
-use crate::answering::Judges;
 use crate::lines::{Lines, NextLine};
 use crate::telling::{NO_MEMORY_LINE, make_line, make_refusal, ready_line};
 use call_stages::{Question, RunFault, ask};
@@ -15,8 +14,9 @@ use command_files::{
 use command_line::{PROGRAM, PairFiles, STANDARD_INPUT};
 use devices::FromRead;
 use exit_statuses::{Exit, Trouble};
-use game_page::Maker;
 use known_bests::KnownBests;
+use page_answers::Maker;
+use serve_answers::Judges;
 use serve_requests::Refusal;
 use std::alloc::{AllocError, Global};
 use std::io::{BufRead, BufReader, Input, Read};

@@ -2,14 +2,16 @@
 ghost use Rattle.lex_check.specs.Pairs.{list_in};
 ghost use Rattle.known_bests.specs.Known.{AreKnown};
 
-use crate::answering::{Body, Judges, Response, answer_to};
+use crate::answering::{Response, answer_to};
 use answer_json::push_trouble;
 use command_line::SHORT_VERSION;
 use decimal_text::push_number;
 use exit_statuses::Exit;
 use known_bests::KnownBests;
+use reply_texts::Body;
 use serde::Serialize;
 use serde_json::Value;
+use serve_answers::Judges;
 use serve_requests::{Refusal, Request, id_in, request_in};
 use std::alloc::{AllocError, Global};
 

@@ -12,18 +12,20 @@ use Rattle.serve_requests.specs.declared.refusals.Refusal.TheVariants as refusal
 use Rattle.serve_requests.specs.declared.requests.Request.{Request}
 use Rattle.serve_requests.specs.declared.requests.Request.TheVariants as request
 use Rattle.serve_requests.specs.Said.{value_at, text_said, flag_said, number_said, said, number_in}
-use Rattle.serve_requests.specs.Asked.{name_of, command_of, text_data, texts_data, IsGame, IsFlag, IsRequestIn, MayHave, Says, line_said}
-use Rattle.serve_requests.specs.Reasons.{IsNoText, IsNoFlag, IsNoNumber, IsBadGame, IsBadFor, LacksWords, LacksRack, NamesNone, IsReason, IsRefusedForMemoryAlone}
+use Rattle.serve_requests.specs.Asked.{name_of, command_of, text_data, texts_data, IsGame, IsSheet, IsFlag, IsRequestIn, MayHave, Says, line_said}
+use Rattle.serve_requests.specs.Reasons.{IsNoText, IsNoFlag, IsNoNumber, IsBadSheet, IsBadFor, LacksWords, LacksRack, NamesNone, IsReason, IsRefusedForMemoryAlone}
 
 -- the command of a name, by its first two letters
 abbrev by_letters : (x y : ℕ) → Command
 by_letters x y =
     if x == 106 then command.Judge else
     if x == 101 then command.Explain else
-    if x == 97 then command.Audit else
+    if x == 97 then (if y == 117 then command.Audit else command.Annotate) else
     if x == 98 then command.Board else
     if x == 119 then command.Word else
     if x == 112 then command.Page else
+    if x == 114 then command.Repair else
+    if x == 99 then command.Compare else
     if y == 111 then command.Top else command.Tidy
 
 abbrev by_name : List ℕ → Command
@@ -39,6 +41,9 @@ by_its_name command.Top = refl
 by_its_name command.Word = refl
 by_its_name command.Tidy = refl
 by_its_name command.Page = refl
+by_its_name command.Repair = refl
+by_its_name command.Compare = refl
+by_its_name command.Annotate = refl
 
 same_command : (one other : Command) → name_of one ≡ name_of other → one ≡ other
 same_command one other is = sym (by_its_name one) ∙ ap by_name is ∙ by_its_name other
@@ -65,9 +70,12 @@ no_flag key otherwise flag d why (told, is, same) (name, reason, named, none) = 
 no_number : (least most : ℕ) (key : List ℕ) (d : Data) (why : Refusal) (n : Option ℕ) → number_said least most key d ≡ Some n → IsNoNumber least most key d why → ⊥
 no_number least most key d why n is (name, told, named, none) = not_both (number_said least most key d) n is none
 
-no_game : (asked : Command) (d : Data) (why : Refusal) (game : List ℕ) → IsGame d game → IsBadGame asked d why → ⊥
-no_game asked d why game is (inl bad) = no_text (codes "game") d why (Some game) is bad
-no_game asked d why game is (inr (name, told, named, none)) = said_is_some (text_said (codes "game") d) game is none
+no_sheet : (key : List ℕ) (asked : Command) (d : Data) (why : Refusal) (sheet : List ℕ) → IsSheet key d sheet → IsBadSheet key asked d why → ⊥
+no_sheet key asked d why sheet is (inl bad) = no_text key d why (Some sheet) is bad
+no_sheet key asked d why sheet is (inr (name, told, named, none)) = said_is_some (text_said key d) sheet is none
+
+no_game : (asked : Command) (d : Data) (why : Refusal) (game : List ℕ) → IsGame d game → IsBadSheet (codes "game") asked d why → ⊥
+no_game asked d why game is bad = no_sheet (codes "game") asked d why game is bad
 
 more_is_not_none : (d : Data) (ds : Items) → Some (item d ds) ≡ Some no_items → ⊥
 more_is_not_none d ds is = cc
@@ -98,9 +106,9 @@ says_well : (d : Data) (why : Refusal) (r : Request) → Says d r → IsBadFor (
 says_well d why (request.Judge game settle best) says (inl bad) = absurd (no_game command.Judge d why game.now says.0 bad)
 says_well d why (request.Judge game settle best) says (inr (inl bad)) = absurd (no_flag (codes "settle") false settle d why says.1 bad)
 says_well d why (request.Judge game settle best) says (inr (inr bad)) = absurd (no_flag (codes "best") true best d why says.2 bad)
-says_well d why (request.Explain game line likely) says (inl bad) = absurd (no_game command.Explain d why game.now says.0 bad)
-says_well d why (request.Explain game line likely) says (inr (inl bad)) = absurd (no_number 0 (2 ^ 32 - 1) (codes "line") d why line says.1 bad)
-says_well d why (request.Explain game line likely) says (inr (inr bad)) = absurd (no_flag (codes "likely") true likely d why says.2 bad)
+says_well d why (request.Explain game line likely lead) says (inl bad) = absurd (no_game command.Explain d why game.now says.0 bad)
+says_well d why (request.Explain game line likely lead) says (inr (inl bad)) = absurd (no_number 0 (2 ^ 32 - 1) (codes "line") d why line says.1 bad)
+says_well d why (request.Explain game line likely lead) says (inr (inr bad)) = absurd (no_flag (codes "likely") true likely d why says.2 bad)
 says_well d why (request.Audit game corrected) says (inl bad) = absurd (no_game command.Audit d why game.now says.0 bad)
 says_well d why (request.Audit game corrected) says (inr bad) = absurd (no_flag (codes "corrected") false corrected d why says.1 bad)
 says_well d why (request.Board game line) says (inl bad) = absurd (no_game command.Board d why game.now says.0 bad)
@@ -116,6 +124,14 @@ says_well d why (request.Word words) says (inr (inr is)) = is
 says_well d why (request.Tidy game) says bad = absurd (no_game command.Tidy d why game.now says bad)
 says_well d why (request.Page game likely) says (inl bad) = absurd (no_game command.Page d why game.now says.0 bad)
 says_well d why (request.Page game likely) says (inr bad) = absurd (no_flag (codes "likely") true likely d why says.1 bad)
+says_well d why (request.Repair game many repaired) says (inl bad) = absurd (no_game command.Repair d why game.now says.0 bad)
+says_well d why (request.Repair game many repaired) says (inr (inl bad)) = absurd (no_number 1 100 (codes "number") d why many says.1 bad)
+says_well d why (request.Repair game many repaired) says (inr (inr bad)) = absurd (no_flag (codes "repaired") false repaired d why says.2 bad)
+says_well d why (request.Compare first second merged) says (inl bad) = absurd (no_sheet (codes "first") command.Compare d why first.now says.0 bad)
+says_well d why (request.Compare first second merged) says (inr (inl bad)) = absurd (no_sheet (codes "second") command.Compare d why second.now says.1 bad)
+says_well d why (request.Compare first second merged) says (inr (inr bad)) = absurd (no_flag (codes "merged") false merged d why says.2 bad)
+says_well d why (request.Annotate game many) says (inl bad) = absurd (no_game command.Annotate d why game.now says.0 bad)
+says_well d why (request.Annotate game many) says (inr bad) = absurd (no_number 1 100 (codes "number") d why many says.1 bad)
 
 is_object : (d : Data) (name : List ℕ) → text_said (codes "do") d ≡ Some (Some name) → is_some (as_object d) ≡ false → ⊥
 is_object null name is none = said_is_some (Some (Some name)) name refl (sym is)

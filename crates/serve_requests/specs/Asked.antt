@@ -21,14 +21,24 @@ name_of command.Top = codes "top"
 name_of command.Word = codes "word"
 name_of command.Tidy = codes "tidy"
 name_of command.Page = codes "page"
+name_of command.Repair = codes "repair"
+name_of command.Compare = codes "compare"
+name_of command.Annotate = codes "annotate"
 
--- the text of a record
+-- the text of a record, by its key
+abbrev pub IsSheet : (key : List ℕ) → Data → (text : List ℕ) → Type 0
+IsSheet key d text = text_said key d ≡ Some (Some text)
+
 abbrev pub IsGame : Data → (text : List ℕ) → Type 0
-IsGame d text = text_said (codes "game") d ≡ Some (Some text)
+IsGame d text = IsSheet (codes "game") d text
 
 -- a line of a record: a number that fits in 32 bits
 abbrev pub line_said : Data → Option (Option ℕ)
 line_said d = number_said 0 (2 ^ 32 - 1) (codes "line") d
+
+-- how many of something are asked for, at most a hundred, if that is said
+abbrev pub number_asked : Data → Option (Option ℕ)
+number_asked d = number_said 1 100 (codes "number") d
 
 -- a flag, which is `otherwise` if it is not given
 abbrev pub IsFlag : (key : List ℕ) → (otherwise : Bool) → Data → Bool → Type 0
@@ -44,13 +54,16 @@ texts_data texts = array (items_of (map text_data texts))
 -- the command that a request is for
 abbrev pub command_of : Request → Command
 command_of (request.Judge game settle best) = command.Judge
-command_of (request.Explain game line likely) = command.Explain
+command_of (request.Explain game line likely lead) = command.Explain
 command_of (request.Audit game corrected) = command.Audit
 command_of (request.Board game line) = command.Board
 command_of (request.Top game line rack plays) = command.Top
 command_of (request.Word words) = command.Word
 command_of (request.Tidy game) = command.Tidy
 command_of (request.Page game likely) = command.Page
+command_of (request.Repair game many repaired) = command.Repair
+command_of (request.Compare first second merged) = command.Compare
+command_of (request.Annotate game many) = command.Annotate
 
 -- the keys that a request for a command may have besides `id` and `do`
 abbrev pub keys_of : Command → List (List ℕ)
@@ -62,6 +75,9 @@ keys_of command.Top = codes "game" ∷ codes "line" ∷ codes "rack" ∷ codes "
 keys_of command.Word = codes "words" ∷ []
 keys_of command.Tidy = codes "game" ∷ []
 keys_of command.Page = codes "game" ∷ codes "likely" ∷ []
+keys_of command.Repair = codes "game" ∷ codes "number" ∷ codes "repaired" ∷ []
+keys_of command.Compare = codes "first" ∷ codes "second" ∷ codes "merged" ∷ []
+keys_of command.Annotate = codes "game" ∷ codes "number" ∷ []
 
 abbrev pub IsAmong : (keys : List (List ℕ)) → (key : List ℕ) → Type 0
 IsAmong [] key = ⊥
@@ -91,15 +107,19 @@ HasOnlyKeysOf asked d = (key : List ℕ) → IsAmong (keys_in d) key → MayHave
 -- What an object says for a request, by the values of its keys.
 abbrev pub Says : Data → Request → Type 0
 Says d (request.Judge game settle best) = IsGame d game.now × IsFlag (codes "settle") false d settle × IsFlag (codes "best") true d best
-Says d (request.Explain game line likely) = IsGame d game.now × (line_said d ≡ Some line) × IsFlag (codes "likely") true d likely
+-- A request in JSON never asks who is ahead: the command line does, for a text.
+Says d (request.Explain game line likely lead) = IsGame d game.now × (line_said d ≡ Some line) × IsFlag (codes "likely") true d likely × (lead ≡ false)
 Says d (request.Audit game corrected) = IsGame d game.now × IsFlag (codes "corrected") false d corrected
 Says d (request.Board game line) = IsGame d game.now × (line_said d ≡ Some line)
 Says d (request.Top game line rack plays) =
-    IsGame d game.now × (line_said d ≡ Some line) × (text_said (codes "rack") d ≡ Some (option_copied rack)) × (number_said 1 100 (codes "number") d ≡ Some plays)
+    IsGame d game.now × (line_said d ≡ Some line) × (text_said (codes "rack") d ≡ Some (option_copied rack)) × (number_asked d ≡ Some plays)
     × ((line ≡ None) → (rack ≡ None) → ⊥)
 Says d (request.Word words) = (value_at (codes "words") d ≡ Some (texts_data words.items)) × ((words.items ≡ []) → ⊥)
 Says d (request.Tidy game) = IsGame d game.now
 Says d (request.Page game likely) = IsGame d game.now × IsFlag (codes "likely") true d likely
+Says d (request.Repair game many repaired) = IsGame d game.now × (number_asked d ≡ Some many) × IsFlag (codes "repaired") false d repaired
+Says d (request.Compare first second merged) = IsSheet (codes "first") d first.now × IsSheet (codes "second") d second.now × IsFlag (codes "merged") false d merged
+Says d (request.Annotate game many) = IsGame d game.now × (number_asked d ≡ Some many)
 
 -- for this command, it says this
 abbrev pub IsRequestFor : Command → Data → Request → Type 0

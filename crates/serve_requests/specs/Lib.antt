@@ -1,3 +1,4 @@
 pub mod Said
 pub mod Asked
 pub mod Reasons
+pub mod Tasks

@@ -32,9 +32,9 @@ IsNoNumber least most key d why = (name : Bor (List ℕ)) × (why ≡ refusal.No
 abbrev pub IsNoList : (key : List ℕ) → Data → Refusal → Type 0
 IsNoList key d why = (name : Bor (List ℕ)) × (why ≡ refusal.NoTexts name) × (name.now ≡ key) × ((texts : List (Bor (List ℕ))) → value_at key d ≡ Some (texts_data texts) → ⊥)
 
--- What the command needs is missing: the text of its record, its words, or both a rack and a line.
-abbrev pub LacksGame : Command → Data → Refusal → Type 0
-LacksGame asked d why = (name : Bor (List ℕ)) × (why ≡ refusal.Missing asked name) × (name.now ≡ codes "game") × (text_said (codes "game") d ≡ Some None)
+-- What the command needs is missing: the text of a record, its words, or both a rack and a line.
+abbrev pub LacksSheet : (key : List ℕ) → Command → Data → Refusal → Type 0
+LacksSheet key asked d why = (name : Bor (List ℕ)) × (why ≡ refusal.Missing asked name) × (name.now ≡ key) × (text_said key d ≡ Some None)
 
 abbrev pub LacksWords : Data → Refusal → Type 0
 LacksWords d why =
@@ -46,12 +46,18 @@ LacksRack d why =
     (name : Bor (List ℕ)) × (why ≡ refusal.Missing command.Top name) × (name.now ≡ codes "rack or line")
     × (text_said (codes "rack") d ≡ Some None) × (value_at (codes "line") d ≡ None)
 
--- The text of the record, or the line, is not given as it has to be.
+-- The text of a record, the line, or how many of something are asked for is not given as it has to be.
+abbrev pub IsBadSheet : (key : List ℕ) → Command → Data → Refusal → Type 0
+IsBadSheet key asked d why = IsNoText key d why ⊎ LacksSheet key asked d why
+
 abbrev pub IsBadGame : Command → Data → Refusal → Type 0
-IsBadGame asked d why = IsNoText (codes "game") d why ⊎ LacksGame asked d why
+IsBadGame asked d why = IsBadSheet (codes "game") asked d why
 
 abbrev pub IsBadLine : Data → Refusal → Type 0
 IsBadLine d why = IsNoNumber 0 (2 ^ 32 - 1) (codes "line") d why
+
+abbrev pub IsBadNumber : Data → Refusal → Type 0
+IsBadNumber d why = IsNoNumber 1 100 (codes "number") d why
 
 -- A value that the command needs is not given as it has to be. Only where words are read may memory be refused.
 abbrev pub IsBadFor : Command → Data → Refusal → Type 0
@@ -60,10 +66,13 @@ IsBadFor command.Explain d why = IsBadGame command.Explain d why ⊎ (IsBadLine 
 IsBadFor command.Audit d why = IsBadGame command.Audit d why ⊎ IsNoFlag (codes "corrected") d why
 IsBadFor command.Board d why = IsBadGame command.Board d why ⊎ IsBadLine d why
 IsBadFor command.Top d why =
-    IsBadGame command.Top d why ⊎ (IsBadLine d why ⊎ (IsNoText (codes "rack") d why ⊎ (IsNoNumber 1 100 (codes "number") d why ⊎ LacksRack d why)))
+    IsBadGame command.Top d why ⊎ (IsBadLine d why ⊎ (IsNoText (codes "rack") d why ⊎ (IsBadNumber d why ⊎ LacksRack d why)))
 IsBadFor command.Word d why = IsNoList (codes "words") d why ⊎ (LacksWords d why ⊎ (why ≡ refusal.NoMemory))
 IsBadFor command.Tidy d why = IsBadGame command.Tidy d why
 IsBadFor command.Page d why = IsBadGame command.Page d why ⊎ IsNoFlag (codes "likely") d why
+IsBadFor command.Repair d why = IsBadGame command.Repair d why ⊎ (IsBadNumber d why ⊎ IsNoFlag (codes "repaired") d why)
+IsBadFor command.Compare d why = IsBadSheet (codes "first") command.Compare d why ⊎ (IsBadSheet (codes "second") command.Compare d why ⊎ IsNoFlag (codes "merged") d why)
+IsBadFor command.Annotate d why = IsBadGame command.Annotate d why ⊎ IsBadNumber d why
 
 -- a key that a request for the command may not have
 abbrev pub IsOtherKey : Command → Data → Refusal → Type 0

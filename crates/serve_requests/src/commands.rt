@@ -22,6 +22,12 @@ pub enum Command {
     Tidy,
     /// To write the page of a game.
     Page,
+    /// To find what repairs a record.
+    Repair,
+    /// To compare two sheets of one game.
+    Compare,
+    /// To write a sheet with notes.
+    Annotate,
 }
 
 impl Command {
@@ -39,6 +45,9 @@ impl Command {
             "word" => Some(Command::Word),
             "tidy" => Some(Command::Tidy),
             "page" => Some(Command::Page),
+            "repair" => Some(Command::Repair),
+            "compare" => Some(Command::Compare),
+            "annotate" => Some(Command::Annotate),
             _ => None,
         }
     }
@@ -56,6 +65,9 @@ impl Command {
             Command::Word => "word",
             Command::Tidy => "tidy",
             Command::Page => "page",
+            Command::Repair => "repair",
+            Command::Compare => "compare",
+            Command::Annotate => "annotate",
         }
     }
 
@@ -66,12 +78,15 @@ impl Command {
     {
         match key {
             "id" | "do" => true,
-            "game" => self != Command::Word,
+            "game" => !matches!(self, Command::Word | Command::Compare),
+            "first" | "second" | "merged" => self == Command::Compare,
             "settle" | "best" => self == Command::Judge,
             "corrected" => self == Command::Audit,
+            "repaired" => self == Command::Repair,
             "likely" => matches!(self, Command::Explain | Command::Page),
             "line" => matches!(self, Command::Explain | Command::Board | Command::Top),
-            "rack" | "number" => self == Command::Top,
+            "rack" => self == Command::Top,
+            "number" => matches!(self, Command::Top | Command::Repair | Command::Annotate),
             "words" => self == Command::Word,
             _ => false,
         }

@@ -2,8 +2,8 @@
 ghost use Rattle.std.specs.Prelude.{◌≡◌, IfOk, IfErr, Some};
 ghost use Rattle.serde_json.specs.View.{view};
 ghost use Rattle.serve_requests.specs.declared.commands.Command.TheVariants as command;
-ghost use Rattle.serve_requests.specs.Asked.{line_said, IsGame, IsRequestFor, IsRequestIn};
-ghost use Rattle.serve_requests.specs.Reasons.{IsBadFor, IsBadGame, IsBadLine, IsReason, IsRefusedForMemoryAlone};
+ghost use Rattle.serve_requests.specs.Asked.{line_said, number_asked, IsSheet, IsGame, IsRequestFor, IsRequestIn};
+ghost use Rattle.serve_requests.specs.Reasons.{IsBadFor, IsBadSheet, IsBadGame, IsBadLine, IsBadNumber, IsReason, IsRefusedForMemoryAlone};
 
 use crate::commands::Command;
 use crate::members::{flag_in, name_in, number_in, other_key, text_in, texts_in};
@@ -11,38 +11,40 @@ use crate::refusals::Refusal;
 use serde_json::Value;
 use std::alloc::Global;
 
-/// The greatest number of best plays that a request may have.
-pub const MOST_PLAYS: u32 = 100;
+/// The greatest number of best plays, or of repairs, that a request may ask for.
+pub const MOST_ASKED: u32 = 100;
 
-/// A request. A game is the text of a record.
+/// A request. A game, or a sheet, is the text of a record.
 #[derive(Drop)]
 pub enum Request<'a> {
     /// To judge a game, and to search for a deal if `settle` says so; unless `best` says so, no best play is looked for.
     Judge {
-        game: &'a str,
+        game: &'a [u8],
         settle: bool,
         best: bool,
     },
-    /// To explain the verdict on a game, or the event on a line if one is named; unless `likely` says so, no likely repair is looked for.
+    /// To explain the verdict on a game, or the event on a line if one is named. Unless `likely` says so, no likely repair is looked for. If `lead`
+    /// says so, it is also asked, where there is no likely repair, which bonus or penalty would explain the numbers, and who is ahead by the right ones.
     Explain {
-        game: &'a str,
+        game: &'a [u8],
         line: Option<u32>,
         likely: bool,
+        lead: bool,
     },
     /// To audit the sheet of a game, and to write the corrected record if `corrected` says so and it stands.
     Audit {
-        game: &'a str,
+        game: &'a [u8],
         corrected: bool,
     },
     /// To show the board of a game, before a line if one is named.
     Board {
-        game: &'a str,
+        game: &'a [u8],
         line: Option<u32>,
     },
     /// To find the best `number` plays on the board of a game, before a line if one is named; by a rack, or by the one that the line
     /// shows.
     Top {
-        game: &'a str,
+        game: &'a [u8],
         line: Option<u32>,
         rack: Option<&'a str>,
         number: Option<u32>,
@@ -53,24 +55,61 @@ pub enum Request<'a> {
     },
     /// To write the normal form of a record.
     Tidy {
-        game: &'a str,
+        game: &'a [u8],
     },
     /// To write the page of a game; unless `likely` says so, without its likely repair.
     Page {
-        game: &'a str,
+        game: &'a [u8],
         likely: bool,
+    },
+    /// To find what repairs a record, at most `number` repairs, and to write the repaired sheet if `repaired` says so and one repair is to be chosen.
+    Repair {
+        game: &'a [u8],
+        number: Option<u32>,
+        repaired: bool,
+    },
+    /// To compare two sheets of one game, and to write the merged record if `merged` says so and one is ahead of all others.
+    Compare {
+        first: &'a [u8],
+        second: &'a [u8],
+        merged: bool,
+    },
+    /// To write a sheet with notes, each with at most `number` best plays.
+    Annotate {
+        game: &'a [u8],
+        number: Option<u32>,
     },
 }
 
+/// The text of a record, by its key.
+fn sheet_in<'a>(
+    object: &'a Value,
+    command: Command,
+    key: &'static str,
+) -> Result<&'a [u8], Refusal<'a>>
+    ensures sheet { IfOk result (λ sheet. IsSheet key.now (view object.now) sheet.now) }
+    ensures reason { IfErr result (IsBadSheet key.now command (view object.now)) }
+{
+    match text_in(object, key)? {
+        Some(sheet) => Ok(sheet.as_bytes()),
+        None => Err(Refusal::Missing(command, key)),
+    }
+}
+
 /// The text of the record.
-fn game_in<'a>(object: &'a Value, command: Command) -> Result<&'a str, Refusal<'a>>
+fn game_in<'a>(object: &'a Value, command: Command) -> Result<&'a [u8], Refusal<'a>>
     ensures game { IfOk result (λ game. IsGame (view object.now) game.now) }
     ensures reason { IfErr result (IsBadGame command (view object.now)) }
 {
-    match text_in(object, "game")? {
-        Some(game) => Ok(game),
-        None => Err(Refusal::Missing(command, "game")),
-    }
+    sheet_in(object, command, "game")
+}
+
+/// How many best plays or repairs are asked for.
+fn number_asked<'a>(object: &'a Value) -> Result<Option<u32>, Refusal<'a>>
+    ensures number { IfOk result (λ number. number_asked (view object.now) ≡ Some number) }
+    ensures reason { IfErr result (IsBadNumber (view object.now)) }
+{
+    number_in(object, "number", 1, MOST_ASKED)
 }
 
 /// The line that is named.
@@ -102,6 +141,7 @@ fn explain_in<'a>(object: &'a Value) -> Result<Request<'a>, Refusal<'a>>
         game: game_in(object, Command::Explain)?,
         line: line_in(object)?,
         likely: flag_in(object, "likely", true)?,
+        lead: false,
     })
 }
 
@@ -135,7 +175,7 @@ fn top_in<'a>(object: &'a Value) -> Result<Request<'a>, Refusal<'a>>
     let game = game_in(object, Command::Top)?;
     let line = line_in(object)?;
     let rack = text_in(object, "rack")?;
-    let number = number_in(object, "number", 1, MOST_PLAYS)?;
+    let number = number_asked(object)?;
     if rack.is_none() && line.is_none() {
         return Err(Refusal::Missing(Command::Top, "rack or line"));
     }
@@ -178,6 +218,41 @@ fn page_in<'a>(object: &'a Value) -> Result<Request<'a>, Refusal<'a>>
     })
 }
 
+/// A request for what repairs a record.
+fn repair_in<'a>(object: &'a Value) -> Result<Request<'a>, Refusal<'a>>
+    ensures says { IfOk result (IsRequestFor command.Repair (view object.now)) }
+    ensures reason { IfErr result (IsBadFor command.Repair (view object.now)) }
+{
+    Ok(Request::Repair {
+        game: game_in(object, Command::Repair)?,
+        number: number_asked(object)?,
+        repaired: flag_in(object, "repaired", false)?,
+    })
+}
+
+/// A request to compare two sheets.
+fn compare_in<'a>(object: &'a Value) -> Result<Request<'a>, Refusal<'a>>
+    ensures says { IfOk result (IsRequestFor command.Compare (view object.now)) }
+    ensures reason { IfErr result (IsBadFor command.Compare (view object.now)) }
+{
+    Ok(Request::Compare {
+        first: sheet_in(object, Command::Compare, "first")?,
+        second: sheet_in(object, Command::Compare, "second")?,
+        merged: flag_in(object, "merged", false)?,
+    })
+}
+
+/// A request for a sheet with notes.
+fn annotate_in<'a>(object: &'a Value) -> Result<Request<'a>, Refusal<'a>>
+    ensures says { IfOk result (IsRequestFor command.Annotate (view object.now)) }
+    ensures reason { IfErr result (IsBadFor command.Annotate (view object.now)) }
+{
+    Ok(Request::Annotate {
+        game: game_in(object, Command::Annotate)?,
+        number: number_asked(object)?,
+    })
+}
+
 /// The request of an object that names a command.
 fn request_for<'a>(
     alloc: Global,
@@ -196,6 +271,9 @@ fn request_for<'a>(
         Command::Word => word_in(alloc, object),
         Command::Tidy => tidy_in(object),
         Command::Page => page_in(object),
+        Command::Repair => repair_in(object),
+        Command::Compare => compare_in(object),
+        Command::Annotate => annotate_in(object),
     }
 }
 

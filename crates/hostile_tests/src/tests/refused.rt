@@ -6,6 +6,7 @@ use super::jobs::{
     TIDIED, UNSETTLED, WITHDRAWN, WORD, attempt, working,
 };
 use call_stages::{RunFault, pair_file};
+use case_explanations::explain;
 use explain_lines::push_explanation;
 use game_case::open_case;
 use game_deal::{DealFault, bounds, complete};
@@ -320,8 +321,12 @@ fn explained(alloc: Global, game: &[u8]) -> Option<Vec<u8>> {
     let Ok(case) = open_case(alloc, &rules, &pair, &mut game) else {
         return None;
     };
+    let explanation = match (&case.read, &case.walk) {
+        (Ok(entry), Some(walk)) => explain(alloc, &rules, pair.list(), entry, walk, None).ok()?,
+        _ => None,
+    };
     let mut text = Vec::new(alloc);
-    push_explanation(alloc, &mut text, &rules, pair.list(), &case, None).ok()?;
+    push_explanation(alloc, &mut text, &case, None, explanation.as_ref()).ok()?;
     Some(text)
 }
 

@@ -1,5 +1,5 @@
 use Rattle.std.proofs.Common.{◌≡◌, take}
-use Rattle.event_facts.specs.Racks.{clash_lines}
+use Rattle.event_facts.specs.Deals.{clash_lines}
 use Rattle.event_facts.proofs.clashes.clash_lines.Given as goal
 
 abbrev pub invariant-loop-step : goal.invariant-loop-step

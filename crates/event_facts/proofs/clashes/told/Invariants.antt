@@ -1,5 +1,5 @@
 use Rattle.std.proofs.Common.{take}
-use Rattle.event_facts.specs.Racks.{ArePartsOf}
+use Rattle.event_facts.specs.Deals.{ArePartsOf}
 use Rattle.event_facts.proofs.clashes.told.Given as goal
 
 abbrev pub invariant-loop-place : goal.invariant-loop-place

@@ -1,5 +1,5 @@
 use Rattle.std.proofs.Common.{rules, ◌≡◌, ◌<◌, ◌++◌, List, ap, subst, ◌∙◌}
-use Rattle.event_facts.specs.declared.facts.RackLine.{RackLine}
+use Rattle.event_facts.specs.declared.facts.racks.RackLine.{RackLine}
 use Rattle.event_facts.specs.Racks.{rack_line, together}
 use Rattle.event_facts.proofs.RackLaws.{shown_of}
 use Rattle.event_facts.proofs.racks.too_big.Goals as goal

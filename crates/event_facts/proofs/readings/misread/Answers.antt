@@ -6,7 +6,7 @@ use Rattle.ref_play.specs.Words.{items_of, words_formed}
 use Rattle.lex_list.specs.Words.{is_listed}
 use Rattle.event_facts.specs.Moments.{moment_of}
 use Rattle.event_facts.specs.Readings.{IsOnRack}
-use Rattle.event_facts.specs.Facts.{letters_in}
+use Rattle.event_facts.specs.Spelling.{letters_in}
 use Rattle.event_facts.proofs.Plays.{of_play}
 use Rattle.event_facts.proofs.ReadLaws.{read_as, misread}
 use Rattle.event_facts.proofs.readings.misread.Goals as goal

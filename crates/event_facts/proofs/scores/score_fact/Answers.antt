@@ -2,7 +2,8 @@ use Rattle.std.proofs.lemmas.Int.{ints}
 use Rattle.std.proofs.Common.{rules, w32, to_z-of_z, refl, ap}
 use Rattle.game_turns.specs.Machines.{state_of}
 use Rattle.game_turns.specs.Tallies.{is_play, is_pass}
-use Rattle.event_facts.specs.Facts.{is_exchange, is_withdrawal, right_score}
+use Rattle.event_facts.specs.Kinds.{is_exchange, is_withdrawal}
+use Rattle.event_facts.specs.Scores.{right_score}
 use Rattle.event_facts.proofs.Numbers.{scores_told, none_given}
 use Rattle.event_facts.proofs.scores.score_fact.Goals as goal
 

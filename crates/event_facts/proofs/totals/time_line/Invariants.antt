@@ -1,6 +1,6 @@
 use Rattle.std.proofs.Common.{◌≡◌, drop}
 use Rattle.std.specs.List.{list_any}
-use Rattle.event_facts.specs.Facts.{is_time_of}
+use Rattle.event_facts.specs.Totals.{is_time_of}
 use Rattle.event_facts.proofs.totals.time_line.Given as goal
 
 abbrev pub invariant-loop-event : goal.invariant-loop-event

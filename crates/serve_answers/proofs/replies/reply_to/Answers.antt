@@ -4,6 +4,7 @@ use Rattle.serve_answers.specs.Replies.{IsReplyTo}
 use Rattle.serve_answers.specs.declared.replies.Reply.TheVariants as reply
 use Rattle.serve_answers.proofs.replies.reply_to.Goals as goal
 
-pub returns-in_ok-audited-in-Audit-clause-reply : goal.returns-in_ok-audited-in-Audit-clause-reply
-returns-in_ok-audited-in-Audit-clause-reply c =
-    subst (λ r. IsReplyTo c.args.rules.now (list_in c.args.pair.now) r (reply.Audited c.in_ok-audited-in-Audit.field-0)) (sym c.in-Audit.is) c.in_ok-audited-in-Audit.ensures.found
+pub returns-in_ok-compared-in-Compare-clause-reply : goal.returns-in_ok-compared-in-Compare-clause-reply
+returns-in_ok-compared-in-Compare-clause-reply c =
+    subst (λ r. IsReplyTo c.args.judges.now.maker.now c.args.judges.now.rules.now (list_in c.args.judges.now.pair.now) r (reply.Compared c.in_ok-compared-in-Compare.field-0)) (sym c.in-Compare.is)
+    c.in_ok-compared-in-Compare.ensures.compared

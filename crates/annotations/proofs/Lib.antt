@@ -1,0 +1,2 @@
+pub mod NextPlays
+pub mod NoteSteps

@@ -1,0 +1,13 @@
+-- What is written of what was found, in each form.
+use Rattle.std.specs.Prelude.{◌≡◌, ⊤, Result, Ok, Err, None}
+use Rattle.call_stages.specs.declared.decisions.Decision.{Decision}
+use Rattle.serve_answers.specs.declared.printed.Printed.{Printed}
+use Rattle.serve_answers.specs.declared.replies.Reply.{Reply}
+use Rattle.answer_commands.specs.declared.forms.Form.{Form}
+use Rattle.answer_commands.specs.declared.forms.Form.TheVariants as form
+
+-- in words, a bad input is reported by its line alone
+abbrev pub IsWrittenAs : Form → Result Reply Decision → Printed → Type 0
+IsWrittenAs form.Words (Err d) printed = (printed.report.items ≡ d.report.items) × (printed.kept ≡ None)
+IsWrittenAs form.Words (Ok reply) printed = ⊤
+IsWrittenAs form.Object found printed = ⊤

@@ -1,0 +1,122 @@
+//! The commands about one game.
+
+use crate::advice::advise;
+use crate::comparing::compare;
+use crate::forms::Form;
+use crate::kept_files::KeptFile;
+use crate::reports::{name_beside, report_beside};
+use crate::tasks::{Asked, asked_of};
+use crate::tops::{is_rack, refuse_rack};
+use command_files::{
+    Inputs, Source, UsedOutput, advise_unread, give_hint, given_up, open_inputs, open_sheet,
+    tell_others, told_in_json, used_source,
+};
+use command_line::{GameFiles, GameRequest, PlaysAsked};
+use exit_statuses::{Exit, Trouble};
+use reply_calls::{Ended, OneSheet, answer_sheet};
+use serve_requests::Task;
+use std::rt::Runtime;
+
+/// Says on standard error what may help with a bad input.
+pub(crate) fn hint<'a, R: Runtime + AllocGlobal>(
+    rt: &R,
+    files: GameFiles<'a>,
+    inputs: &Inputs<R::File, Source<R>>,
+    ended: &Ended,
+) {
+    if let Some(decision) = &ended.refused {
+        give_hint(rt, decision.report.as_slice(), &inputs.known(files.pair));
+    }
+}
+
+/// Opens the files of a sheet, makes the call, and says what helps beside the answer.
+fn answer_one<'a, R: Runtime + AllocGlobal>(
+    rt: &R,
+    files: GameFiles<'a>,
+    task: Task<'_>,
+    out: Option<&'a str>,
+    form: Form,
+) -> Result<Exit, Trouble<'a>> {
+    let digests = matches!(task, Task::Page { .. });
+    let mut inputs = open_inputs(rt, files.rules, files.pair, digests)?;
+    let mut game = OneSheet {
+        sheet: open_sheet(rt, files.game)?,
+    };
+    let mut kept = KeptFile::new(rt, out);
+    let mut report = report_beside(rt, out);
+    let outcome = answer_sheet(
+        rt.alloc(),
+        task,
+        &mut inputs.rules,
+        &mut inputs.words,
+        &mut inputs.lexicon,
+        &mut game,
+        &form,
+        &mut kept,
+        &mut report,
+    );
+    tell_others(rt, files.pair.words.name, &inputs.words);
+    match outcome {
+        Ok(ended) => {
+            if form == Form::Object {
+                advise_unread(rt, files.game, game.sheet.inner().front());
+            } else if ended.refused.is_none() {
+                advise(rt, files.game, task, ended.exit, &game.sheet);
+            } else {
+                hint(rt, files, &inputs, &ended);
+            }
+            Ok(ended.exit)
+        }
+        Err(fault) => {
+            if let Some(trouble) = kept.trouble() {
+                return Err(trouble);
+            }
+            let [rules, words, lexicon] = inputs.used(files.rules, files.pair);
+            let sheet = used_source(files.game, &game.sheet);
+            let writer = report.into_inner();
+            let written = UsedOutput::new(name_beside(out), &writer);
+            Err(given_up(fault, &[rules, words, lexicon, sheet], written))
+        }
+    }
+}
+
+/// Whether the rack that a request names is not one.
+fn names_no_rack<R: Runtime + AllocGlobal>(
+    rt: &R,
+    request: GameRequest<'_>,
+) -> Result<bool, Trouble<'static>> {
+    match request {
+        GameRequest::Top(PlaysAsked { rack, .. }) => Ok(!is_rack(rt, rack)?),
+        GameRequest::Judge { .. } | GameRequest::Sheet(_) => Ok(false),
+    }
+}
+
+/// Answers a request about a game, in a form.
+fn answer_in<'a, R: Runtime + AllocGlobal>(
+    rt: &R,
+    files: GameFiles<'a>,
+    request: GameRequest<'a>,
+    form: Form,
+) -> Result<Exit, Trouble<'a>> {
+    if names_no_rack(rt, request)? {
+        return refuse_rack(rt, files);
+    }
+    match asked_of(request, form == Form::Object) {
+        Asked::OfOne(task) => answer_one(rt, files, task, request.out(), form),
+        Asked::WithAnother(second) => compare(rt, files, second, request.out(), form),
+    }
+}
+
+/// Answers a request about a game: in words, or with a JSON object. If the program cannot finish, an object says why.
+pub fn answer_game<'a, R: Runtime + AllocGlobal>(
+    rt: &R,
+    files: GameFiles<'a>,
+    request: GameRequest<'a>,
+    json: bool,
+) -> Result<Exit, Trouble<'a>> {
+    if json {
+        told_in_json(rt, answer_in(rt, files, request, Form::Object))
+    } else {
+        answer_in(rt, files, request, Form::Words)
+    }
+}

@@ -1,0 +1,86 @@
+//! The forms in which a reply is written.
+ghost use Rattle.std.specs.Prelude.{IfOk};
+ghost use Rattle.lex_check.specs.Pairs.{list_in};
+ghost use Rattle.reply_calls.specs.Found.{IsMakerOf};
+ghost use Rattle.answer_commands.specs.declared.forms.Form.TheVariants as form;
+ghost use Rattle.answer_commands.specs.Forms.{IsWrittenAs};
+
+use call_stages::Decision;
+use command_files::{Digests, GivenFiles, RulesFile, Words, digests_of};
+use command_line::PROGRAM;
+use devices::FromRead;
+use page_answers::Maker;
+use reply_calls::Rendering;
+use reply_texts::{Body, as_object, in_words, refusal_object};
+use serve_answers::{Printed, Reply};
+use std::alloc::{AllocError, Global};
+use std::io::Read;
+
+/// The form in which a reply is written.
+#[derive(Clone, Copy, Debug, PartialEq, Eq)]
+pub enum Form {
+    /// In words, for people.
+    Words,
+    /// As a JSON object, for programs.
+    Object,
+}
+
+/// What was found, in words. A bad input is reported by its line.
+fn words_of(alloc: Global, found: &Result<Reply, Decision>) -> Result<Printed, AllocError>
+    ensures { IfOk result (IsWrittenAs form.Words found.now) }
+{
+    match found {
+        Ok(reply) => in_words(alloc, reply),
+        Err(decision) => Printed::of_bytes(alloc, decision.report.as_slice()),
+    }
+}
+
+/// What was found, as an object.
+fn object_of(alloc: Global, found: &Result<Reply, Decision>) -> Result<Printed, AllocError> {
+    match found {
+        Ok(reply) => match as_object(alloc, reply)? {
+            Body::Object(report) | Body::Text(report) => Ok(Printed::report(report)),
+            Body::Both(report, text) => Ok(Printed {
+                report,
+                kept: Some(text),
+            }),
+        },
+        Err(decision) => Ok(Printed::report(refusal_object(alloc, decision)?)),
+    }
+}
+
+/// What pages are made by, with the digests of the inputs.
+pub fn maker_of<F: Read + Drop, S: Read + Drop>(
+    given: &GivenFiles<'_, F, S>,
+) -> Result<Maker, AllocError>
+    ensures { IfOk result (IsMakerOf (list_in given.now.pair.now)) }
+{
+    let Digests { list, rules } = digests_of(given)?;
+    Ok(Maker {
+        program: PROGRAM,
+        words: given.pair.list().len(),
+        list,
+        rules,
+    })
+}
+
+impl<F: Read + Drop, S: Read + Drop> Rendering<RulesFile<F>, FromRead<Words<S>>> for Form {
+    ghost use Rattle.answer_commands.specs.Forms.{IsWrittenAs};
+
+    ghost shows = { λ form found printed. IsWrittenAs form found printed };
+
+    fn maker(&self, _alloc: Global, given: &GivenFiles<'_, F, S>) -> Result<Maker, AllocError> {
+        maker_of(given)
+    }
+
+    fn render(
+        &self,
+        alloc: Global,
+        found: &Result<Reply, Decision>,
+    ) -> Result<Printed, AllocError> {
+        match self {
+            Form::Words => words_of(alloc, found),
+            Form::Object => object_of(alloc, found),
+        }
+    }
+}

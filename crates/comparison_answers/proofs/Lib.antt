@@ -1,0 +1,4 @@
+pub mod Agreeing
+pub mod Answering
+pub mod Flipping
+pub mod Racking

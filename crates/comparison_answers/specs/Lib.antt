@@ -1,0 +1,13 @@
+pub mod Agreements
+pub mod Exits
+pub mod Places
+pub mod Scores
+pub mod Lines
+pub mod Racks
+pub mod Pairs
+pub mod Counts
+pub mod Found
+pub mod Ends
+pub mod Furthest
+pub mod Changed
+pub mod Answers

@@ -1,0 +1,75 @@
+//! Names of what is found.
+
+use comparison_answers::{Agreement, LinesAnswer, OtherLine, OwnRack, RacksAnswer, WhyNotMerged};
+use sheet_alignments::Side;
+
+/// The name of a sheet.
+pub(crate) fn side_name(side: Side) -> &'static str {
+    match side {
+        Side::First => "first",
+        Side::Second => "second",
+    }
+}
+
+/// The verdict on two sheets.
+pub(crate) fn verdict_name(agreement: Agreement) -> &'static str {
+    match agreement {
+        Agreement::Agree => "agree",
+        Agreement::Differ => "differ",
+        Agreement::Unsettled => "unsettled",
+    }
+}
+
+/// The name of what is said of two lines.
+pub(crate) fn lines_name(lines: LinesAnswer) -> &'static str {
+    match lines {
+        LinesAnswer::Agree => "agree",
+        LinesAnswer::OtherScores { .. } => "other scores",
+        LinesAnswer::Differ | LinesAnswer::Taken { .. } => "differ",
+    }
+}
+
+/// The name of what comes of the line that is not taken.
+pub(crate) fn other_name(other: OtherLine) -> &'static str {
+    match other {
+        OtherLine::NotVaried => "not varied",
+        OtherLine::AsGood => "as good",
+        OtherLine::Refused { .. } => "refused",
+        OtherLine::NoDeal => "no deal",
+        OtherLine::NoDealFound => "no deal found",
+        OtherLine::OtherScore { .. } => "other score",
+        OtherLine::MoreWrong => "more wrong",
+    }
+}
+
+/// The name of what is said of two racks.
+pub(crate) fn racks_name(racks: RacksAnswer) -> &'static str {
+    match racks {
+        RacksAnswer::Same => "same",
+        RacksAnswer::Differ => "differ",
+        RacksAnswer::Own { .. } => "own",
+        RacksAnswer::Other { .. } => "other",
+    }
+}
+
+/// The name of why a player's own rack is not taken.
+pub(crate) fn own_rack_name(why: OwnRack) -> &'static str {
+    match why {
+        OwnRack::NoGame => "no game",
+        OwnRack::NoDeal => "no deal",
+        OwnRack::NoDealFound => "no deal found",
+        OwnRack::MoreWrong => "more wrong",
+    }
+}
+
+/// The name of why there is no merged record.
+pub(crate) fn why_name(why: WhyNotMerged) -> &'static str {
+    match why {
+        WhyNotMerged::OtherChoice => "other choice",
+        WhyNotMerged::ChoiceLeftOpen => "choice left open",
+        WhyNotMerged::NoGame => "no game",
+        WhyNotMerged::OtherChange => "other change",
+        WhyNotMerged::ChangeLeftOpen => "change left open",
+        WhyNotMerged::NoNickname => "no nickname",
+    }
+}

@@ -1,0 +1,92 @@
+//! Deals of the tiles, and racks that no deal gives.
+
+use crate::names::nick;
+use event_facts::{ClashLine, DealFact, ExchangeLine};
+use gcg_read::Players;
+use sentence_parts::{Part, push_tiles, say, say_of_line};
+use std::alloc::AllocError;
+
+/// Appends which tiles and lines already cannot be together.
+fn push_clash(
+    text: &mut Vec<u8>,
+    players: &Players,
+    lines: &[ClashLine],
+) -> Result<(), AllocError> {
+    if lines.is_empty() {
+        return text.extend_from_slice(
+            b"Even if no rack were shown, no deal would give the plays and the exchanges.\n",
+        );
+    }
+    text.extend_from_slice(b"Even if only these tiles were shown, no deal would give them:\n")?;
+    for line in lines {
+        say_of_line(text, "  line ", line.line, " shows ")?;
+        push_tiles(text, &line.tiles)?;
+        say(
+            text,
+            &[
+                Part::Say(" on "),
+                Part::Raw(nick(players, line.player)),
+                Part::Say("'s rack\n"),
+            ],
+        )?;
+    }
+    Ok(())
+}
+
+/// Appends where tiles were exchanged.
+fn push_exchanges(
+    text: &mut Vec<u8>,
+    players: &Players,
+    exchanges: &[ExchangeLine],
+) -> Result<(), AllocError> {
+    text.extend_from_slice(b"Compare the racks with the exchanges:\n")?;
+    for exchange in exchanges {
+        say_of_line(text, "  line ", exchange.line, ": ")?;
+        say(
+            text,
+            &[
+                Part::Raw(nick(players, exchange.player)),
+                Part::Say(" exchanges "),
+                Part::Things(exchange.tiles, "tile"),
+                Part::Say("\n"),
+            ],
+        )?;
+    }
+    Ok(())
+}
+
+/// Appends that no deal gives the racks, what already cannot be together, and where tiles were exchanged.
+fn push_no_deal(
+    text: &mut Vec<u8>,
+    players: &Players,
+    clash: Option<&[ClashLine]>,
+    exchanges: &[ExchangeLine],
+) -> Result<(), AllocError> {
+    text.extend_from_slice(
+        b"No deal of the tiles gives the players the racks that the lines up to this one show, though no line alone shows too much.\n",
+    )?;
+    if let Some(lines) = clash {
+        push_clash(text, players, lines)?;
+    }
+    push_exchanges(text, players, exchanges)
+}
+
+/// Appends a fact about deals.
+pub fn push_deal_fact(
+    text: &mut Vec<u8>,
+    players: &Players,
+    fact: &DealFact,
+) -> Result<(), AllocError> {
+    match fact {
+        DealFact::DealtTo { line } => say_of_line(
+            text,
+            "Up to line ",
+            *line,
+            " a deal of the tiles gives the players every rack that is shown.\n",
+        ),
+        DealFact::NoDeal { clash, exchanges } => {
+            let lines = clash.as_ref().map(|lines| lines.as_slice());
+            push_no_deal(text, players, lines, exchanges.as_slice())
+        }
+    }
+}

@@ -1,2 +1,0 @@
-pub mod Likely
-pub mod Pages

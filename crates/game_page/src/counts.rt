@@ -1,0 +1,63 @@
+//! How many games had each answer.
+
+use archive_lines::Answer;
+
+/// How many games had each answer.
+#[derive(Clone, Copy, Debug, PartialEq, Eq)]
+pub struct AnswerCounts {
+    /// How many are legal.
+    pub legal: usize,
+    /// How many are illegal.
+    pub illegal: usize,
+    /// Of how many it was not settled.
+    pub unsettled: usize,
+    /// How many files are not records.
+    pub bad_record: usize,
+    /// How many records have no event.
+    pub no_game: usize,
+    /// How many files were not read.
+    pub unread: usize,
+}
+
+/// No game had any answer.
+pub(crate) fn no_counts() -> AnswerCounts {
+    AnswerCounts {
+        legal: 0,
+        illegal: 0,
+        unsettled: 0,
+        bad_record: 0,
+        no_game: 0,
+        unread: 0,
+    }
+}
+
+/// How many games had an answer.
+pub(crate) fn count_of(counts: &AnswerCounts, answer: Answer) -> usize {
+    match answer {
+        Answer::Legal => counts.legal,
+        Answer::Illegal => counts.illegal,
+        Answer::Unsettled => counts.unsettled,
+        Answer::BadRecord => counts.bad_record,
+        Answer::NoGame => counts.no_game,
+        Answer::Unread => counts.unread,
+    }
+}
+
+/// The number after this one; the greatest stays.
+fn next(many: usize) -> usize {
+    many.saturating_add(1)
+}
+
+/// The counts with one answer more, as long as fewer than 2^64 - 1 games had it.
+pub(crate) fn count_more(counts: &AnswerCounts, answer: Answer) -> AnswerCounts {
+    let mut more = *counts;
+    match answer {
+        Answer::Legal => more.legal = next(more.legal),
+        Answer::Illegal => more.illegal = next(more.illegal),
+        Answer::Unsettled => more.unsettled = next(more.unsettled),
+        Answer::BadRecord => more.bad_record = next(more.bad_record),
+        Answer::NoGame => more.no_game = next(more.no_game),
+        Answer::Unread => more.unread = next(more.unread),
+    }
+    more
+}

@@ -1,0 +1,3 @@
+pub mod Repaired
+pub mod Sheets
+pub mod Pages

@@ -1,0 +1,84 @@
+-- What is found of sheets that are read.
+use Rattle.std.proofs.Common.{◌≡◌, ℕ, Bool, List, [], ◌∷◌, Result, Ok, Err, refl, subst}
+use Rattle.ref_tiles.specs.declared.rulebook.Rules.{Rules}
+use Rattle.gcg_read.specs.Records.{most_bytes}
+use Rattle.devices.specs.Devices.{Device}
+use Rattle.call_stages.specs.declared.decisions.Decision.{Decision}
+use Rattle.call_stages.specs.declared.faults.RunFault.{RunFault}
+use Rattle.call_stages.specs.declared.faults.RunFault.TheVariants as run
+use Rattle.call_stages.specs.declared.verdicts.Verdict.{Verdict}
+use Rattle.call_stages.specs.declared.verdicts.Verdict.TheVariants as verdict
+use Rattle.call_stages.specs.Runs.{Gives, outcomes}
+use Rattle.call_stages.specs.Sources.{game_source}
+use Rattle.call_stages.specs.Stages.{IsRead}
+use Rattle.call_stages.proofs.Giving.{gives_failed, gives_stopped, gives_last, gives_good}
+use Rattle.serve_requests.specs.declared.tasks.Task.{Task}
+use Rattle.serve_answers.specs.declared.replies.Reply.{Reply}
+use Rattle.reply_calls.specs.Found.{IsReplyOn, IsReplyOnBoth, IsFoundOn, IsFoundOnSecond, IsFoundOnBoth}
+
+-- what a sheet gives: its bytes
+abbrev AreItems : {B : Type 0} → (items : B → List ℕ) → List ℕ → B → Type 0
+AreItems items text bytes = items bytes ≡ text
+
+-- one sheet
+pub on_sheet : {B : Type 0} (items : B → List ℕ) (old new : Device) (asked : Task) (rules : Rules) (list : List (List ℕ)) (bytes : B) (reply : Reply)
+    → IsRead most_bytes old new (AreItems items) (Ok bytes) → IsReplyOn rules list asked (items bytes) reply
+    → Gives outcomes (game_source old new ∷ []) (IsFoundOn asked rules list) (Ok (Ok reply))
+on_sheet items old new asked rules list bytes reply read is =
+    gives_last outcomes (game_source old new) (AreItems items) (IsFoundOn asked rules list) bytes (Ok reply) read
+    (λ text means. (subst (λ t. IsReplyOn rules list asked t reply) means is, record { verdict_is = refl; told = refl }))
+
+pub no_reply : {B : Type 0} (items : B → List ℕ) (old new : Device) (asked : Task) (rules : Rules) (list : List (List ℕ)) (bytes : B) (fault : RunFault)
+    → IsRead most_bytes old new (AreItems items) (Ok bytes) → fault ≡ run.NoMemory
+    → Gives outcomes (game_source old new ∷ []) (IsFoundOn asked rules list) (Err fault)
+no_reply items old new asked rules list bytes fault read refused =
+    gives_stopped outcomes (game_source old new) [] (AreItems items) (IsFoundOn asked rules list) bytes (Err fault) read tt refused
+
+pub no_sheet : {B : Type 0} (items : B → List ℕ) (old new : Device) (asked : Task) (rules : Rules) (list : List (List ℕ)) (fault : RunFault)
+    → IsRead most_bytes old new (AreItems items) (Err fault) → Gives outcomes (game_source old new ∷ []) (IsFoundOn asked rules list) (Err fault)
+no_sheet items old new asked rules list fault read =
+    gives_failed outcomes (game_source old new) [] (AreItems items) (IsFoundOn asked rules list) fault read tt
+
+-- the second of two
+pub on_second : {B : Type 0} (items : B → List ℕ) (old new : Device) (merged : Bool) (rules : Rules) (list : List (List ℕ)) (one : List ℕ) (bytes : B) (reply : Reply)
+    → IsRead most_bytes old new (AreItems items) (Ok bytes) → IsReplyOnBoth rules list merged one (items bytes) reply
+    → Gives outcomes (game_source old new ∷ []) (IsFoundOnSecond merged rules list one) (Ok (Ok reply))
+on_second items old new merged rules list one bytes reply read is =
+    gives_last outcomes (game_source old new) (AreItems items) (IsFoundOnSecond merged rules list one) bytes (Ok reply) read
+    (λ text means. (subst (λ t. IsReplyOnBoth rules list merged one t reply) means is, record { verdict_is = refl; told = refl }))
+
+pub no_reply_on_both : {B : Type 0} (items : B → List ℕ) (old new : Device) (merged : Bool) (rules : Rules) (list : List (List ℕ)) (one : List ℕ) (bytes : B) (fault : RunFault)
+    → IsRead most_bytes old new (AreItems items) (Ok bytes) → fault ≡ run.NoMemory
+    → Gives outcomes (game_source old new ∷ []) (IsFoundOnSecond merged rules list one) (Err fault)
+no_reply_on_both items old new merged rules list one bytes fault read refused =
+    gives_stopped outcomes (game_source old new) [] (AreItems items) (IsFoundOnSecond merged rules list one) bytes (Err fault) read tt refused
+
+pub no_second : {B : Type 0} (items : B → List ℕ) (old new : Device) (merged : Bool) (rules : Rules) (list : List (List ℕ)) (one : List ℕ) (fault : RunFault)
+    → IsRead most_bytes old new (AreItems items) (Err fault) → Gives outcomes (game_source old new ∷ []) (IsFoundOnSecond merged rules list one) (Err fault)
+no_second items old new merged rules list one fault read =
+    gives_failed outcomes (game_source old new) [] (AreItems items) (IsFoundOnSecond merged rules list one) fault read tt
+
+-- both
+is_done : (merged : Bool) (rules : Rules) (list : List (List ℕ)) (one : List ℕ) (found : Result Reply Decision) (texts : List (List ℕ)) (v : Verdict) (report : List ℕ)
+    → IsFoundOnSecond merged rules list one found texts v report → v ≡ verdict.Done
+is_done merged rules list one (Ok reply) [] v report is = absurd is
+is_done merged rules list one (Ok reply) (other ∷ []) v report is = is.1.verdict_is
+is_done merged rules list one (Ok reply) (other ∷ more ∷ rest) v report is = absurd is
+is_done merged rules list one (Err d) texts v report is = absurd is
+
+done_is_not_bad : (v : Verdict) → v ≡ verdict.Done → v ≡ verdict.BadRecord → ⊥
+done_is_not_bad v done bad = let both = subst (λ w. w ≡ verdict.BadRecord) done bad in cc
+
+pub on_both : {B : Type 0} (items : B → List ℕ) (old new second_old second_new : Device) (merged : Bool) (rules : Rules) (list : List (List ℕ)) (bytes : B) (result : Result (Result Reply Decision) RunFault)
+    → IsRead most_bytes old new (AreItems items) (Ok bytes) → Gives outcomes (game_source second_old second_new ∷ []) (IsFoundOnSecond merged rules list (items bytes)) result
+    → Gives outcomes (game_source old new ∷ game_source second_old second_new ∷ []) (IsFoundOnBoth merged rules list) result
+on_both items old new second_old second_new merged rules list bytes result read next =
+    gives_good outcomes (game_source old new) (game_source second_old second_new ∷ []) (AreItems items) (IsFoundOnSecond merged rules list (items bytes)) (IsFoundOnBoth merged rules list) bytes result read
+    next (λ found text rest v report means is. subst (λ t. IsFoundOnSecond merged rules list t found rest v report) means is)
+    (λ found rest v report is. done_is_not_bad v (is_done merged rules list (items bytes) found rest v report is))
+
+pub no_first : {B : Type 0} (items : B → List ℕ) (old new second : Device) (merged : Bool) (rules : Rules) (list : List (List ℕ)) (fault : RunFault)
+    → IsRead most_bytes old new (AreItems items) (Err fault)
+    → Gives outcomes (game_source old new ∷ game_source second second ∷ []) (IsFoundOnBoth merged rules list) (Err fault)
+no_first items old new second merged rules list fault read =
+    gives_failed outcomes (game_source old new) (game_source second second ∷ []) (AreItems items) (IsFoundOnBoth merged rules list) fault read (refl, tt)

@@ -1,0 +1,58 @@
+-- What a call writes of what it found.
+use Rattle.std.specs.Prelude.{◌≡◌, ℕ, List, Option, Result, IfOk, IfErr, IfSome, OnOk}
+use Rattle.std.specs.Io.KnownBytes.{Appends}
+use Rattle.devices.specs.Devices.{Device, HasWorked}
+use Rattle.call_stages.specs.declared.decisions.Decision.{Decision}
+use Rattle.call_stages.specs.declared.faults.RunFault.{RunFault}
+use Rattle.call_stages.specs.declared.faults.RunFault.TheVariants as run
+use Rattle.call_stages.specs.declared.verdicts.Verdict.{Verdict}
+use Rattle.call_stages.specs.Runs.{IsAnswered, outcome_verdict, outcome_report}
+use Rattle.call_stages.specs.Sources.{Source, AllHaveWorked, OneHasFailed, AreWithin}
+use Rattle.exit_statuses.specs.Exits.{status_of}
+use Rattle.serve_answers.specs.declared.replies.Reply.{Reply}
+use Rattle.serve_answers.specs.declared.printed.Printed.{Printed}
+use Rattle.reply_calls.specs.declared.ended.Ended.{Ended}
+use Rattle.reply_calls.specs.Endings.{status_of_found, refused_of}
+
+-- What was found is written: the report that shows it, and no more, goes to the output; if there is a text to be kept, it is kept; the status is that of
+-- what was found.
+pub record IsWrittenOf (Shows : Result Reply Decision → Printed → Type 0) (Holds : List ℕ → Type 0) (found : Result Reply Decision) (out_old out_new : Device) (ended : Ended) : Type 0 where
+  pub printed : Printed
+  pub shown : Shows found printed
+  pub sent : Appends out_old.bytes out_new.bytes printed.report.items
+  pub kept : IfSome printed.kept (λ text. Holds text.items)
+  pub status : status_of ended.exit ≡ status_of_found found
+  pub refused : ended.refused ≡ refused_of found
+
+-- why it was not written: memory was refused, and then nothing was; or an output failed
+abbrev pub StopsWriting : (out_old out_new : Device) → RunFault → Type 0
+StopsWriting out_old out_new run.ReadFailed = ⊥
+StopsWriting out_old out_new run.WriteFailed = Unit {0}
+StopsWriting out_old out_new run.NoMemory = out_new ≡ out_old
+
+pub record IsWriting (Shows : Result Reply Decision → Printed → Type 0) (Holds : List ℕ → Type 0) (found : Result Reply Decision) (out_old out_new : Device) (result : Result Ended RunFault) : Type 0 where
+  pub written : IfOk result (IsWrittenOf Shows Holds found out_old out_new)
+  pub worked : OnOk result (HasWorked out_old out_new)
+  pub gave_up : IfErr result (StopsWriting out_old out_new)
+
+-- for the bytes that the inputs give, this is found, and it is written
+pub record Replies (sources : List Source) (IsFound : Result Reply Decision → List (List ℕ) → Verdict → List ℕ → Type 0) (Shows : Result Reply Decision → Printed → Type 0) (Holds : List ℕ → Type 0)
+    (out_old out_new : Device) (ended : Ended) : Type 0 where
+  pub found : Result Reply Decision
+  pub is_found : IsAnswered sources (IsFound found) (outcome_verdict found) (outcome_report found)
+  pub written : IsWrittenOf Shows Holds found out_old out_new ended
+
+-- why a call gave up: an input failed, or memory was refused, and then nothing was written; or an output failed
+abbrev pub GivesUpBy : List Source → (out_old out_new : Device) → RunFault → Type 0
+GivesUpBy sources out_old out_new run.ReadFailed = OneHasFailed sources × (out_new ≡ out_old)
+GivesUpBy sources out_old out_new run.WriteFailed = AllHaveWorked sources
+GivesUpBy sources out_old out_new run.NoMemory = AllHaveWorked sources × (out_new ≡ out_old)
+
+-- A call by inputs, which are read in order until one is bad, and an output: it finds what there is to be found by the bytes that they give, and writes that and
+-- nothing else; otherwise it says why.
+pub record IsReplying (sources : List Source) (IsFound : Result Reply Decision → List (List ℕ) → Verdict → List ℕ → Type 0) (Shows : Result Reply Decision → Printed → Type 0) (Holds : List ℕ → Type 0)
+    (out_old out_new : Device) (result : Result Ended RunFault) : Type 0 where
+  pub replied : IfOk result (Replies sources IsFound Shows Holds out_old out_new)
+  pub worked : OnOk result (AllHaveWorked sources × HasWorked out_old out_new)
+  pub gave_up : IfErr result (GivesUpBy sources out_old out_new)
+  pub within : AreWithin sources

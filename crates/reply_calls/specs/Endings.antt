@@ -1,0 +1,16 @@
+-- How a call ends after what was found.
+use Rattle.std.specs.Prelude.{ℕ, Option, Some, None, Result, Ok, Err}
+use Rattle.call_stages.specs.declared.decisions.Decision.{Decision}
+use Rattle.exit_statuses.specs.Exits.{status_of, exit_of}
+use Rattle.serve_answers.specs.declared.replies.Reply.{Reply}
+use Rattle.serve_answers.specs.Exits.{status_of_reply}
+
+-- the status after what was found: a reply, or that an input is bad
+abbrev pub status_of_found : Result Reply Decision → ℕ
+status_of_found (Ok reply) = status_of_reply reply
+status_of_found (Err d) = status_of (exit_of d.verdict)
+
+-- the decision that an input is bad, if that was found
+abbrev pub refused_of : Result Reply Decision → Option Decision
+refused_of (Ok reply) = None
+refused_of (Err d) = Some d

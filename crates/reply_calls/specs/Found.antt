@@ -1,0 +1,81 @@
+-- What is found of the sheets that a call reads.
+use Rattle.std.proofs.Common.{◌≡◌, sym, subst, ℕ, Bool, List, [], ◌∷◌, length, Result, Ok, Err}
+use Rattle.std.specs.Borrow.{Bor}
+use Rattle.ref_tiles.specs.declared.rulebook.Rules.{Rules}
+use Rattle.call_stages.specs.declared.decisions.Decision.{Decision}
+use Rattle.call_stages.specs.declared.verdicts.Verdict.{Verdict}
+use Rattle.call_stages.specs.declared.verdicts.Verdict.TheVariants as verdict
+use Rattle.call_stages.specs.Reading.{ReadsNoMore, ReadsNext}
+use Rattle.call_stages.specs.Telling.{IsTold, IsLater}
+use Rattle.page_answers.specs.declared.makers.Maker.{Maker}
+use Rattle.serve_requests.specs.declared.tasks.Task.{Task}
+use Rattle.serve_requests.specs.declared.requests.Request.{Request}
+use Rattle.serve_requests.specs.declared.requests.Request.TheVariants as request
+use Rattle.serve_requests.specs.Tasks.{request_of}
+use Rattle.serve_answers.specs.declared.replies.Reply.{Reply}
+use Rattle.serve_answers.specs.Replies.{IsReplyTo}
+
+-- What pages are made by says how many words the list has.
+abbrev pub IsMakerOf : (list : List (List ℕ)) → Maker → Type 0
+IsMakerOf list maker = maker.words ≡ length list
+
+-- the reply to a request, with pages that are made by such a maker
+pub record IsReplyBy (rules : Rules) (list : List (List ℕ)) (asked : Request) (reply : Reply) : Type 0 where
+  pub maker : Maker
+  pub made : IsMakerOf list maker
+  pub is_reply : IsReplyTo maker rules list asked reply
+
+-- the reply to the request that asks this of the sheet with these bytes
+pub record IsReplyOn (rules : Rules) (list : List (List ℕ)) (asked : Task) (text : List ℕ) (reply : Reply) : Type 0 where
+  pub sheet : Bor (List ℕ)
+  pub bytes : sheet.now ≡ text
+  pub is_reply : IsReplyBy rules list (request_of asked sheet) reply
+
+-- the reply to the request to compare the sheets with these bytes
+pub record IsReplyOnBoth (rules : Rules) (list : List (List ℕ)) (merged : Bool) (one other : List ℕ) (reply : Reply) : Type 0 where
+  pub first : Bor (List ℕ)
+  pub second : Bor (List ℕ)
+  pub first_bytes : first.now ≡ one
+  pub second_bytes : second.now ≡ other
+  pub is_reply : IsReplyBy rules list (request.Compare first second merged) reply
+
+-- what is found once the sheet is read
+abbrev pub IsFoundOn : Task → Rules → (list : List (List ℕ)) → Result Reply Decision → (texts : List (List ℕ)) → Verdict → List ℕ → Type 0
+IsFoundOn asked rules list (Ok reply) texts v report = ReadsNext (λ text. ReadsNoMore (λ w said. IsReplyOn rules list asked text reply × IsTold verdict.Done [] w said)) texts v report
+IsFoundOn asked rules list (Err d) texts v report = ⊥
+
+-- what is found once the second of two sheets is read, and once both are
+abbrev pub IsFoundOnSecond : (merged : Bool) → Rules → (list : List (List ℕ)) → (one : List ℕ) → Result Reply Decision → (texts : List (List ℕ)) → Verdict → List ℕ → Type 0
+IsFoundOnSecond merged rules list one (Ok reply) texts v report =
+    ReadsNext (λ other. ReadsNoMore (λ w said. IsReplyOnBoth rules list merged one other reply × IsTold verdict.Done [] w said)) texts v report
+IsFoundOnSecond merged rules list one (Err d) texts v report = ⊥
+
+abbrev pub IsFoundOnBoth : (merged : Bool) → Rules → (list : List (List ℕ)) → Result Reply Decision → (texts : List (List ℕ)) → Verdict → List ℕ → Type 0
+IsFoundOnBoth merged rules list found texts v report = ReadsNext (λ one. IsFoundOnSecond merged rules list one found) texts v report
+
+-- ---- none of these says that an input that is read before is bad
+
+done_later : IsLater verdict.Done
+done_later = record { rules = λ bad. cc; words = λ bad. cc; lexicon = λ bad. cc }
+
+later_as : (v : Verdict) → v ≡ verdict.Done → IsLater v
+later_as v is = subst IsLater (sym is) done_later
+
+pub found_later : (asked : Task) (rules : Rules) (list : List (List ℕ)) (found : Result Reply Decision) (texts : List (List ℕ)) (v : Verdict) (report : List ℕ)
+    → IsFoundOn asked rules list found texts v report → IsLater v
+found_later asked rules list (Ok reply) [] v report is = absurd is
+found_later asked rules list (Ok reply) (text ∷ []) v report is = later_as v is.1.verdict_is
+found_later asked rules list (Ok reply) (text ∷ more ∷ rest) v report is = absurd is
+found_later asked rules list (Err d) texts v report is = absurd is
+
+pub second_later : (merged : Bool) (rules : Rules) (list : List (List ℕ)) (one : List ℕ) (found : Result Reply Decision) (texts : List (List ℕ)) (v : Verdict) (report : List ℕ)
+    → IsFoundOnSecond merged rules list one found texts v report → IsLater v
+second_later merged rules list one (Ok reply) [] v report is = absurd is
+second_later merged rules list one (Ok reply) (other ∷ []) v report is = later_as v is.1.verdict_is
+second_later merged rules list one (Ok reply) (other ∷ more ∷ rest) v report is = absurd is
+second_later merged rules list one (Err d) texts v report is = absurd is
+
+pub both_later : (merged : Bool) (rules : Rules) (list : List (List ℕ)) (found : Result Reply Decision) (texts : List (List ℕ)) (v : Verdict) (report : List ℕ)
+    → IsFoundOnBoth merged rules list found texts v report → IsLater v
+both_later merged rules list found [] v report is = absurd is
+both_later merged rules list found (one ∷ rest) v report is = second_later merged rules list one found rest v report is

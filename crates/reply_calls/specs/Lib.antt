@@ -1,0 +1,3 @@
+pub mod Endings
+pub mod Found
+pub mod Calls

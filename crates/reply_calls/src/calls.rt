@@ -1,0 +1,104 @@
+//! The calls.
+ghost use Rattle.std.specs.Prelude.{◌∷◌, []};
+ghost use Rattle.devices.specs.Devices.{HasRoom};
+ghost use Rattle.call_stages.specs.Reading.{ReadsPair};
+ghost use Rattle.call_stages.specs.Sources.{game_source, pair_sources};
+ghost use Rattle.reply_calls.specs.Calls.{IsReplying};
+ghost use Rattle.reply_calls.specs.Found.{IsFoundOn, IsFoundOnBoth};
+
+use crate::ended::Ended;
+use crate::outlets::Outlet;
+use crate::questions::{OneSheet, SheetQuestion, SheetsQuestion, TwoSheets};
+use crate::renderings::Rendering;
+use crate::writing::write_found;
+use call_stages::{RulesSource, RunFault, ask};
+use devices::{Input, Output};
+use serve_requests::Task;
+use std::alloc::Global;
+
+/// Reads the rules if they are not known, the words of a list, their lexicon and a sheet, in this order until one is bad, and writes what is found: the
+/// reply to what is asked of the sheet, or that an input before it is bad. The text to be kept is kept before the report is written.
+///
+/// # Errors
+///
+/// If an input failed or memory was refused; then nothing is written to `out`. Or if an output failed.
+#[tactic(auto, using(crate::proofs::Replying::replied, crate::proofs::Replying::stopped))]
+pub fn answer_sheet<
+    S: RulesSource,
+    W: Input,
+    L: Input,
+    G: Input,
+    T: Rendering<S, W>,
+    K: Outlet,
+    O: Output,
+>(
+    alloc: Global,
+    task: Task<'_>,
+    rules: &mut S,
+    words: &mut W,
+    lexicon: &mut L,
+    sheet: &mut OneSheet<G>,
+    rendering: &T,
+    kept: &mut K,
+    out: &mut O,
+) -> Result<Ended, RunFault>
+    requires rules { HasRoom (S.text rules.old) }
+    requires words { HasRoom (W.device words.old) }
+    requires lexicon { HasRoom (L.device lexicon.old) }
+    requires sheet { HasRoom (G.device sheet.old.sheet) }
+    requires out { HasRoom (O.device out.old) }
+    ensures { IsReplying (pair_sources (S.known rules.old) (S.text rules.old) (S.text rules.new) (W.device words.old) (W.device words.new)
+        (L.device lexicon.old) (L.device lexicon.new) (game_source (G.device sheet.old.sheet) (G.device sheet.new.sheet) ∷ []))
+        (λ found. ReadsPair (S.known rules.old) (λ stated list. IsFoundOn task.entry stated list found))
+        (T.shows rendering.now) (K.holds kept.new) (O.device out.old) (O.device out.new) result }
+{
+    let question = SheetQuestion { task, rendering };
+    match ask(alloc, &question, rules, words, lexicon, sheet) {
+        Ok(found) => write_found::<S, W, T, K, O>(alloc, rendering, found, kept, out),
+        Err(fault) => Err(fault),
+    }
+}
+
+/// The same with two sheets, which are compared; `merged` says whether the merged record is requested.
+///
+/// # Errors
+///
+/// If an input failed or memory was refused; then nothing is written to `out`. Or if an output failed.
+#[tactic(auto, using(crate::proofs::Replying::replied, crate::proofs::Replying::stopped))]
+pub fn answer_sheets<
+    S: RulesSource,
+    W: Input,
+    L: Input,
+    G: Input,
+    T: Rendering<S, W>,
+    K: Outlet,
+    O: Output,
+>(
+    alloc: Global,
+    merged: bool,
+    rules: &mut S,
+    words: &mut W,
+    lexicon: &mut L,
+    sheets: &mut TwoSheets<G>,
+    rendering: &T,
+    kept: &mut K,
+    out: &mut O,
+) -> Result<Ended, RunFault>
+    requires rules { HasRoom (S.text rules.old) }
+    requires words { HasRoom (W.device words.old) }
+    requires lexicon { HasRoom (L.device lexicon.old) }
+    requires first { HasRoom (G.device sheets.old.first) }
+    requires second { HasRoom (G.device sheets.old.second) }
+    requires out { HasRoom (O.device out.old) }
+    ensures { IsReplying (pair_sources (S.known rules.old) (S.text rules.old) (S.text rules.new) (W.device words.old) (W.device words.new)
+        (L.device lexicon.old) (L.device lexicon.new)
+        (game_source (G.device sheets.old.first) (G.device sheets.new.first) ∷ game_source (G.device sheets.old.second) (G.device sheets.new.second) ∷ []))
+        (λ found. ReadsPair (S.known rules.old) (λ stated list. IsFoundOnBoth merged stated list found))
+        (T.shows rendering.now) (K.holds kept.new) (O.device out.old) (O.device out.new) result }
+{
+    let question = SheetsQuestion { merged, rendering };
+    match ask(alloc, &question, rules, words, lexicon, sheets) {
+        Ok(found) => write_found::<S, W, T, K, O>(alloc, rendering, found, kept, out),
+        Err(fault) => Err(fault),
+    }
+}

@@ -1,0 +1,151 @@
+//! What is found of sheets that are read.
+ghost use Rattle.std.specs.Prelude.{◌≡◌, ◌∷◌, [], IfOk, OnOk};
+ghost use Rattle.devices.specs.Devices.{HasRoom};
+ghost use Rattle.gcg_read.specs.Records.{most_bytes};
+ghost use Rattle.lex_check.specs.Pairs.{list_in};
+ghost use Rattle.call_stages.specs.Runs.{Gives, outcomes};
+ghost use Rattle.call_stages.specs.Sources.{game_source};
+ghost use Rattle.call_stages.specs.Stages.{IsRead};
+ghost use Rattle.serve_answers.specs.Given.{FailsForMemoryAlone};
+ghost use Rattle.reply_calls.specs.Found.{IsReplyBy, IsReplyOn, IsReplyOnBoth, IsFoundOn, IsFoundOnSecond, IsFoundOnBoth};
+
+use crate::renderings::Rendering;
+use call_stages::{Decision, Given, RunFault, read_text};
+use devices::Input;
+use gcg_read::MAX_BYTES;
+use known_bests::KnownBests;
+use serve_answers::{Judges, Reply, reply_to};
+use serve_requests::{Request, Task};
+use std::alloc::Global;
+
+/// The bytes of a sheet, to their end or to one byte past 1 MiB.
+#[tactic(auto, using(call_stages::proofs::Readings::whole, call_stages::proofs::Readings::failed))]
+fn read_sheet<G: Input>(alloc: Global, sheet: &mut G) -> Result<Vec<u8>, RunFault>
+    requires { HasRoom (G.device sheet.old) }
+    ensures { IsRead most_bytes (G.device sheet.old) (G.device sheet.new) (λ text bytes. bytes.items ≡ text) result }
+{
+    match read_text(alloc, sheet, MAX_BYTES) {
+        Ok(bytes) => Ok(bytes),
+        Err(fault) => Err(fault),
+    }
+}
+
+/// The reply to a request.
+fn reply_by<S, W, T: Rendering<S, W>>(
+    alloc: Global,
+    given: &Given<'_, S, W>,
+    rendering: &T,
+    request: &Request<'_>,
+) -> Result<Reply, RunFault>
+    ensures reply { IfOk result (IsReplyBy given.now.rules.now (list_in given.now.pair.now) request.now) }
+    ensures memory { FailsForMemoryAlone result }
+{
+    let maker = rendering.maker(alloc, given)?;
+    let judges = Judges {
+        rules: given.rules,
+        pair: given.pair,
+        maker: &maker,
+    };
+    let mut known = KnownBests::none(alloc);
+    reply_to(alloc, &judges, request, &mut known)
+}
+
+/// The reply to what is asked of a sheet with these bytes.
+fn reply_on<S, W, T: Rendering<S, W>>(
+    alloc: Global,
+    given: &Given<'_, S, W>,
+    rendering: &T,
+    text: &[u8],
+    task: Task<'_>,
+) -> Result<Reply, RunFault>
+    ensures reply { IfOk result (IsReplyOn given.now.rules.now (list_in given.now.pair.now) task.entry text.now) }
+    ensures memory { FailsForMemoryAlone result }
+{
+    reply_by(alloc, given, rendering, &task.of_game(text))
+}
+
+/// The reply to a request to compare sheets with these bytes.
+fn reply_on_both<S, W, T: Rendering<S, W>>(
+    alloc: Global,
+    given: &Given<'_, S, W>,
+    rendering: &T,
+    first: &[u8],
+    second: &[u8],
+    merged: bool,
+) -> Result<Reply, RunFault>
+    ensures reply { IfOk result (IsReplyOnBoth given.now.rules.now (list_in given.now.pair.now) merged first.now second.now) }
+    ensures memory { FailsForMemoryAlone result }
+{
+    let request = Request::Compare {
+        first,
+        second,
+        merged,
+    };
+    reply_by(alloc, given, rendering, &request)
+}
+
+/// Reads a sheet, and finds what is asked of it.
+#[tactic(auto, using(crate::proofs::SheetLaws::on_sheet, crate::proofs::SheetLaws::no_reply, crate::proofs::SheetLaws::no_sheet))]
+pub fn find_on<S, W, T: Rendering<S, W>, G: Input>(
+    alloc: Global,
+    given: &Given<'_, S, W>,
+    rendering: &T,
+    sheet: &mut G,
+    task: Task<'_>,
+) -> Result<Result<Reply, Decision>, RunFault>
+    requires { HasRoom (G.device sheet.old) }
+    ensures { Gives outcomes (game_source (G.device sheet.old) (G.device sheet.new) ∷ [])
+        (IsFoundOn task.entry given.now.rules.now (list_in given.now.pair.now)) result }
+{
+    match read_sheet(alloc, sheet) {
+        Ok(text) => match reply_on(alloc, given, rendering, text.as_slice(), task) {
+            Ok(reply) => Ok(Ok(reply)),
+            Err(fault) => Err(fault),
+        },
+        Err(fault) => Err(fault),
+    }
+}
+
+/// Reads the second of two sheets, and compares both.
+#[tactic(auto, using(crate::proofs::SheetLaws::on_second, crate::proofs::SheetLaws::no_reply_on_both, crate::proofs::SheetLaws::no_second))]
+fn find_on_second<S, W, T: Rendering<S, W>, G: Input>(
+    alloc: Global,
+    given: &Given<'_, S, W>,
+    rendering: &T,
+    first: &[u8],
+    second: &mut G,
+    merged: bool,
+) -> Result<Result<Reply, Decision>, RunFault>
+    requires { HasRoom (G.device second.old) }
+    ensures { Gives outcomes (game_source (G.device second.old) (G.device second.new) ∷ [])
+        (IsFoundOnSecond merged given.now.rules.now (list_in given.now.pair.now) first.now) result }
+{
+    match read_sheet(alloc, second) {
+        Ok(text) => match reply_on_both(alloc, given, rendering, first, text.as_slice(), merged) {
+            Ok(reply) => Ok(Ok(reply)),
+            Err(fault) => Err(fault),
+        },
+        Err(fault) => Err(fault),
+    }
+}
+
+/// Reads two sheets, and compares them.
+#[tactic(auto, using(crate::proofs::SheetLaws::on_both, crate::proofs::SheetLaws::no_first))]
+pub fn find_on_both<S, W, T: Rendering<S, W>, G: Input>(
+    alloc: Global,
+    given: &Given<'_, S, W>,
+    rendering: &T,
+    first: &mut G,
+    second: &mut G,
+    merged: bool,
+) -> Result<Result<Reply, Decision>, RunFault>
+    requires first { HasRoom (G.device first.old) }
+    requires second { HasRoom (G.device second.old) }
+    ensures { Gives outcomes (game_source (G.device first.old) (G.device first.new) ∷ game_source (G.device second.old) (G.device second.new) ∷ [])
+        (IsFoundOnBoth merged given.now.rules.now (list_in given.now.pair.now)) result }
+{
+    match read_sheet(alloc, first) {
+        Ok(text) => find_on_second(alloc, given, rendering, text.as_slice(), second, merged),
+        Err(fault) => Err(fault),
+    }
+}

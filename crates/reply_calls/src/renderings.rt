@@ -1,0 +1,34 @@
+//! What is written of what was found.
+ghost use Rattle.std.specs.Prelude.{IfOk, Result};
+ghost use Rattle.lex_check.specs.Pairs.{list_in};
+ghost use Rattle.call_stages.specs.declared.decisions.Decision.{Decision};
+ghost use Rattle.serve_answers.specs.declared.replies.Reply.{Reply};
+ghost use Rattle.serve_answers.specs.declared.printed.Printed.{Printed};
+ghost use Rattle.reply_calls.specs.Found.{IsMakerOf};
+
+use call_stages::{Decision, Given};
+use page_answers::Maker;
+use serve_answers::{Printed, Reply};
+use std::alloc::{AllocError, Global};
+
+/// A way to write what was found: the reply, or the decision that an input that is read before the sheets is bad. It also says what pages are made by.
+pub trait Rendering<S, W> {
+    // What is written of what was found.
+    ghost shows: { Self → Result Reply Decision → Printed → Type 0 };
+
+    /// What pages are made by, by what was read.
+    ///
+    /// # Errors
+    ///
+    /// It fails only if memory is refused.
+    fn maker(&self, alloc: Global, given: &Given<'_, S, W>) -> Result<Maker, AllocError>
+        ensures { IfOk result (IsMakerOf (list_in given.now.pair.now)) };
+
+    /// What is written.
+    ///
+    /// # Errors
+    ///
+    /// It fails only if memory is refused.
+    fn render(&self, alloc: Global, found: &Result<Reply, Decision>) -> Result<Printed, AllocError>
+        ensures { IfOk result (shows self.now found.now) };
+}

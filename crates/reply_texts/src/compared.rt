@@ -1,0 +1,91 @@
+//! What is found of two sheets, in words and as an object.
+
+use crate::bodies::Body;
+use crate::cases::NO_GAME;
+use crate::encodings::in_utf8;
+use answer_json::push_bad_record;
+use call_stages::bad_record_line;
+use comparison_answers::ComparisonAnswer;
+use comparison_json::push_comparison_answer;
+use comparison_lines::{push_choice, push_comparison};
+use gcg_write::write;
+use repair_json::push_no_game;
+use serve_answers::{BadSheet, BothCompared, Printed, SheetsFound};
+use std::alloc::{AllocError, Global};
+
+/// What is found of two sheets; and whether the merged record is written, if it is requested. If the first sheet states its encoding, names are UTF-8.
+fn text_of(alloc: Global, both: &BothCompared) -> Result<Vec<u8>, AllocError> {
+    let mut told = Vec::new(alloc);
+    push_comparison(alloc, &mut told, &both.answer)?;
+    if both.merged {
+        push_choice(&mut told, &both.answer)?;
+    }
+    in_utf8(alloc, told, both.encoding)
+}
+
+/// The merged record in the normal form, if there is one.
+fn merged_text(alloc: Global, answer: &ComparisonAnswer) -> Result<Option<Vec<u8>>, AllocError> {
+    let Ok(game) = &answer.merged else {
+        return Ok(None);
+    };
+    let mut text = Vec::new(alloc);
+    match write(game, &mut text) {
+        Ok(()) => Ok(Some(text)),
+        Err(_) => Err(AllocError),
+    }
+}
+
+/// The merged record, if it is requested and there is one.
+fn merged_of(alloc: Global, both: &BothCompared) -> Result<Option<Vec<u8>>, AllocError> {
+    if both.merged {
+        merged_text(alloc, &both.answer)
+    } else {
+        Ok(None)
+    }
+}
+
+/// Why there is nothing to compare on a sheet.
+fn bad_words(alloc: Global, bad: &BadSheet) -> Result<Printed, AllocError> {
+    match bad {
+        BadSheet::NoRecord(fault) => Ok(Printed::report(bad_record_line(alloc, fault)?)),
+        BadSheet::NoEvent(_) => Printed::of_bytes(alloc, NO_GAME),
+    }
+}
+
+/// What is found of two sheets, in words.
+pub fn compared_words(alloc: Global, found: &SheetsFound) -> Result<Printed, AllocError> {
+    match found {
+        SheetsFound::Both(both) => Ok(Printed {
+            report: text_of(alloc, both)?,
+            kept: merged_of(alloc, both)?,
+        }),
+        SheetsFound::FirstBad(bad) | SheetsFound::SecondBad(bad) => bad_words(alloc, bad),
+    }
+}
+
+/// Why there is nothing to compare on a sheet, as an object.
+fn bad_object(alloc: Global, bad: &BadSheet) -> Result<Vec<u8>, AllocError> {
+    let mut text = Vec::new(alloc);
+    match bad {
+        BadSheet::NoRecord(fault) => push_bad_record(alloc, &mut text, *fault)?,
+        BadSheet::NoEvent(unread) => push_no_game(alloc, &mut text, unread.as_slice())?,
+    }
+    Ok(text)
+}
+
+/// What is found of two sheets, as an object.
+fn both_object(alloc: Global, both: &BothCompared) -> Result<Body, AllocError> {
+    let mut text = Vec::new(alloc);
+    push_comparison_answer(alloc, &mut text, &both.answer)?;
+    Ok(Body::with_text(text, merged_of(alloc, both)?))
+}
+
+/// What is found of two sheets, for a program.
+pub fn compared_body(alloc: Global, found: &SheetsFound) -> Result<Body, AllocError> {
+    match found {
+        SheetsFound::Both(both) => both_object(alloc, both),
+        SheetsFound::FirstBad(bad) | SheetsFound::SecondBad(bad) => {
+            Ok(Body::Object(bad_object(alloc, bad)?))
+        }
+    }
+}

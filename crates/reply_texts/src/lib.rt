@@ -1,0 +1,22 @@
+//! What is written of a reply: as words for people, or as an object for programs.
+//!
+//! [`in_words`] gives the report of a reply, and the text for the output that the command names; [`as_object`] gives its object, and the same
+//! text. All of it is in the reply: nothing is found here.
+#![tactic(auto)]
+
+mod audits;
+mod bodies;
+mod cases;
+mod compared;
+mod encodings;
+mod explained;
+mod made;
+mod objects;
+mod repaired;
+mod ruled;
+mod sheets;
+mod words;
+
+pub use bodies::Body;
+pub use objects::{as_object, refusal_object};
+pub use words::in_words;

@@ -1,0 +1,43 @@
+//! Replies in words for people.
+
+use crate::audits::audit_words;
+use crate::bodies::Body;
+use crate::compared::compared_words;
+use crate::explained::explained_words;
+use crate::made::{annotated_words, paged_words};
+use crate::objects::as_object;
+use crate::repaired::repaired_words;
+use serve_answers::{Printed, Reply};
+use std::alloc::{AllocError, Global};
+
+/// What is written of an answer that has no words of its own.
+fn object_alone(alloc: Global, reply: &Reply) -> Result<Printed, AllocError> {
+    match as_object(alloc, reply)? {
+        Body::Object(report) | Body::Text(report) => Ok(Printed::report(report)),
+        Body::Both(report, kept) => Ok(Printed {
+            report,
+            kept: Some(kept),
+        }),
+    }
+}
+
+/// What is written of a reply in words. A reply that the program gives only as an object is one.
+///
+/// # Errors
+///
+/// It fails only if memory is refused.
+pub fn in_words(alloc: Global, reply: &Reply) -> Result<Printed, AllocError> {
+    match reply {
+        Reply::Explained(explained) => explained_words(alloc, explained),
+        Reply::Audited(sheet) => audit_words(alloc, sheet),
+        Reply::Paged(paged) => paged_words(alloc, paged),
+        Reply::Annotated(sheet) => annotated_words(alloc, sheet),
+        Reply::Compared(found) => compared_words(alloc, found),
+        Reply::Repaired(repaired) => repaired_words(alloc, repaired),
+        Reply::Judged(_)
+        | Reply::Boarded(_)
+        | Reply::Found(_)
+        | Reply::Ruled(_)
+        | Reply::Tidied(_) => object_alone(alloc, reply),
+    }
+}

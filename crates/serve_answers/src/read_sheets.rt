@@ -1,0 +1,103 @@
+//! What is found of a record, with its lines that are not read.
+ghost use Rattle.std.specs.Prelude.{◌≡◌, IfOk};
+ghost use Rattle.lex_check.specs.Pairs.{list_in};
+ghost use Rattle.known_bests.specs.Known.{AreKnown};
+ghost use Rattle.serve_answers.specs.Given.{FailsForMemoryAlone, judging_by, read_of};
+ghost use Rattle.serve_answers.specs.ReadSheets.{IsJudgedWith, IsJudgedSheet, IsShownSheet};
+
+use crate::games::{board_in, judged, judged_plainly};
+use call_stages::{Decision, RunFault};
+use engine::Judging;
+use game_answers::{JudgedGame, ShownBoard};
+use known_bests::KnownBests;
+use lex_check::Checked;
+use ref_tiles::Rules;
+use std::alloc::Global;
+use unread_lines::{UnreadLine, unread_lines};
+
+/// A judged game of a record, and which lines of the record are not read although they look like events.
+#[derive(Drop)]
+pub struct JudgedSheet {
+    /// The judged game, or that the text is not a record.
+    pub found: Result<JudgedGame, Decision>,
+    /// The lines that are not read.
+    pub unread: Vec<UnreadLine>,
+}
+
+/// The board of a record, and which lines of the record are not read although they look like events.
+#[derive(Drop)]
+pub struct ShownSheet {
+    /// The board, if there is an event on the line or after it; or that the text is not a record.
+    pub found: Result<Option<ShownBoard>, Decision>,
+    /// The lines that are not read.
+    pub unread: Vec<UnreadLine>,
+}
+
+/// How a game is judged, with a search for a deal or without.
+fn judging_by(settle: bool) -> Judging
+    ensures { result ≡ judging_by settle }
+{
+    if settle {
+        Judging::BySearch
+    } else {
+        Judging::ByRule
+    }
+}
+
+/// The judged game of a record, with or without answers on its events.
+fn judged_by(
+    alloc: Global,
+    rules: &Rules,
+    pair: &Checked<'_>,
+    game: &[u8],
+    question: Judging,
+    best: bool,
+    known: &mut KnownBests,
+) -> Result<Result<JudgedGame, Decision>, RunFault>
+    requires { AreKnown rules.now (list_in pair.now) known.old }
+    ensures known { AreKnown rules.now (list_in pair.now) known.new }
+    ensures judged { IfOk result (IsJudgedWith best question rules.now (list_in pair.now) (read_of game.now)) }
+    ensures memory { FailsForMemoryAlone result }
+{
+    if best {
+        judged(alloc, rules, pair, game, question, known)
+    } else {
+        judged_plainly(alloc, rules, pair, game, question)
+    }
+}
+
+/// The judged game of a record: what `judge --json` finds. Best plays that are known are not looked for again.
+pub fn judged_sheet(
+    alloc: Global,
+    rules: &Rules,
+    pair: &Checked<'_>,
+    game: &[u8],
+    settle: bool,
+    best: bool,
+    known: &mut KnownBests,
+) -> Result<JudgedSheet, RunFault>
+    requires { AreKnown rules.now (list_in pair.now) known.old }
+    ensures known { AreKnown rules.now (list_in pair.now) known.new }
+    ensures judged { IfOk result (IsJudgedSheet best settle rules.now (list_in pair.now) game.now) }
+    ensures memory { FailsForMemoryAlone result }
+{
+    let question = judging_by(settle);
+    let found = judged_by(alloc, rules, pair, game, question, best, known)?;
+    let unread = unread_lines(alloc, game)?;
+    Ok(JudgedSheet { found, unread })
+}
+
+/// The board of a record, before a line if one is named: what `board --json` shows.
+pub fn shown_sheet(
+    alloc: Global,
+    rules: &Rules,
+    game: &[u8],
+    line: Option<u32>,
+) -> Result<ShownSheet, RunFault>
+    ensures shown { IfOk result (IsShownSheet rules.now line game.now) }
+    ensures memory { FailsForMemoryAlone result }
+{
+    let found = board_in(alloc, rules, game, line)?;
+    let unread = unread_lines(alloc, game)?;
+    Ok(ShownSheet { found, unread })
+}

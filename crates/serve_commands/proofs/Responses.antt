@@ -1,0 +1,16 @@
+-- An answer is one to the request whose reply it gives.
+use Rattle.std.proofs.Common.{◌≡◌, ℕ, List, Result, Ok, Err, IfOk}
+use Rattle.ref_tiles.specs.declared.rulebook.Rules.{Rules}
+use Rattle.exit_statuses.specs.Exits.{status_of}
+use Rattle.page_answers.specs.declared.makers.Maker.{Maker}
+use Rattle.serve_requests.specs.declared.requests.Request.{Request}
+use Rattle.serve_answers.specs.declared.replies.Reply.{Reply}
+use Rattle.serve_answers.specs.Exits.{status_of_reply}
+use Rattle.serve_answers.specs.Replies.{IsReplyTo}
+use Rattle.serve_commands.specs.declared.answering.Response.{Response}
+use Rattle.serve_commands.specs.Responses.{IsAnswerTo}
+
+pub answered : {E : Type 0} (maker : Maker) (rules : Rules) (list : List (List ℕ)) (asked : Request) (reply : Reply) (result : Result Response E) → IsReplyTo maker rules list asked reply
+    → IfOk result (λ response. status_of response.exit ≡ status_of_reply reply) → IfOk result (λ response. IsAnswerTo maker rules list asked response.exit)
+answered maker rules list asked reply (Ok response) is status = record { reply = reply; is_reply = is; status = status }
+answered maker rules list asked reply (Err why) is status = tt

@@ -1,0 +1,16 @@
+-- The answer to a request.
+use Rattle.std.specs.Prelude.{◌≡◌, ℕ, List}
+use Rattle.ref_tiles.specs.declared.rulebook.Rules.{Rules}
+use Rattle.exit_statuses.specs.declared.exits.Exit.{Exit}
+use Rattle.exit_statuses.specs.Exits.{status_of}
+use Rattle.page_answers.specs.declared.makers.Maker.{Maker}
+use Rattle.serve_requests.specs.declared.requests.Request.{Request}
+use Rattle.serve_answers.specs.declared.replies.Reply.{Reply}
+use Rattle.serve_answers.specs.Exits.{status_of_reply}
+use Rattle.serve_answers.specs.Replies.{IsReplyTo}
+
+-- its status is that of the reply to the request
+pub record IsAnswerTo (maker : Maker) (rules : Rules) (list : List (List ℕ)) (asked : Request) (exit : Exit) : Type 0 where
+  pub reply : Reply
+  pub is_reply : IsReplyTo maker rules list asked reply
+  pub status : status_of exit ≡ status_of_reply reply
