@@ -1,19 +1,15 @@
-"""All that the page knows of a game: the requests to `referee serve`, and the few commands that answer what it is not asked yet.
+"""All that the page knows of a game: the requests to `referee serve`, and the one command whose remarks on a text have no request.
 
 A worker has one `serve` for what takes milliseconds, and starts another one when something is first asked that may take longer, so that nobody waits for
 the long request of somebody else. A long request has a limit of time, and ends in `TooLong` when that is over.
 """
 from __future__ import annotations
 
-import json
-import os
 import subprocess
-import tempfile
 import threading
 from dataclasses import dataclass
 from html.parser import HTMLParser
-from pathlib import Path
-from typing import Any, Callable, Optional, TypeVar
+from typing import Any, Optional
 
 from referee import Answer, BadInput, Broken, Referee, TimedOut
 
@@ -22,7 +18,6 @@ from .settings import Settings
 
 QUICK_SECONDS = 10.0
 ASIDE = "referee: "
-T = TypeVar("T")
 
 
 class TooLong(Exception):
@@ -46,15 +41,6 @@ class Next:
     turn: Optional[str]
     is_over: bool
     facts: list[dict[str, Any]]
-
-
-@dataclass(frozen=True)
-class Compared:
-    """What differs between two sheets, line by line, and the merged record, if it could be written."""
-
-    status: int
-    rows: list[str]
-    merged: Optional[str]
 
 
 class Judge:
@@ -220,34 +206,26 @@ class Judge:
                     raise
         return ""
 
-    # What only the commands answer.
-
     def repairs(self, game: str) -> Answer:
         """The repairs of a sheet, the likeliest first."""
-        return Answer(json.loads(self._run(["repair", "--json", *self._options, *self._pair, "-"], game).stdout))
+        try:
+            return self._ask_long("repair", game=game)
+        except BadInput as bad:
+            return _why(bad)
 
     def annotated(self, game: str) -> Optional[str]:
-        """The record with a note after each turn."""
-        return self._written(lambda out: ["annotate", *self._options, *self._pair, "-", out], game)[1]
+        """The record with a note after each turn, if it is one."""
+        try:
+            return self._ask_long("annotate", game=game).text
+        except BadInput:
+            return None
 
-    def compare(self, first: str, second: str) -> Compared:
-        """What differs between two sheets, and the record that is made of both."""
-        with tempfile.TemporaryDirectory() as folder:
-            sheet = Path(folder, "second.gcg")
-            sheet.write_text(second, encoding="utf-8")
-            ran, merged = self._written(lambda out: ["compare", *self._options, "--merged", out, *self._pair, "-", str(sheet)], first)
-        told = [line.replace(str(sheet), "second sheet") for line in ran.stdout.splitlines()]
-        if ran.returncode == 3:
-            told += [line[len(ASIDE) :].replace(str(sheet), "second sheet").replace("standard input", "first sheet") for line in ran.stderr.splitlines()]
-        return Compared(ran.returncode, told, merged)
-
-    @property
-    def _options(self) -> list[str]:
-        return self.settings.options
-
-    @property
-    def _pair(self) -> list[str]:
-        return [self.settings.words, self.settings.lexicon]
+    def compare(self, first: str, second: str) -> Answer:
+        """What differs between two sheets, with the merged record, if there is one."""
+        try:
+            return self._ask_long("compare", first=first, second=second)
+        except BadInput as bad:
+            return _why(bad)
 
     def _run(self, words: list[str], game: str) -> subprocess.CompletedProcess[str]:
         """Runs a command, with a game as its standard input."""
@@ -257,13 +235,6 @@ class Judge:
             raise TooLong from error
         except OSError as error:
             raise Broken(error) from error
-
-    def _written(self, words: Callable[[str], list[str]], game: str) -> tuple[subprocess.CompletedProcess[str], Optional[str]]:
-        """Runs a command that writes to a file, and gives back what it wrote, if it wrote."""
-        with tempfile.TemporaryDirectory() as folder:
-            out = os.path.join(folder, "out")
-            ran = self._run(words(out), game)
-            return ran, Path(out).read_text(encoding="utf-8") if os.path.exists(out) else None
 
 
 def _why(bad: BadInput) -> Answer:

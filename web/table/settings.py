@@ -25,12 +25,6 @@ class Settings:
     seconds: float = 10.0
     most_bytes: int = MOST_BYTES
 
-    @property
-    def options(self) -> list[str]:
-        """The options of a command, by which it reads the list and the rules."""
-        flags = [option for option, wanted in (("--first-field", self.first_field), ("--skip-others", self.skip_others)) if wanted]
-        return flags + (["--rules", self.rules] if self.rules else [])
-
 
 def settings_of(environment: Mapping[str, str] = os.environ) -> Settings:
     """The settings that the variables of the environment say, which start.sh sets."""

@@ -9,18 +9,13 @@ from typing import Any
 from flask import Blueprint, Response, g, render_template, request
 
 from . import drafts, shown
+from .compared import comparison_of
 from .forms import download, field, judge, line_in, text_in
 from .judge import TooLong
 
 pages = Blueprint("sheets", __name__)
 
 KINDS = {"legal": "legal", "unsettled": "unsettled"}
-MERGED = {
-    "legal complete": "The merged game stands, and it is complete.",
-    "legal unfinished": "The merged game stands so far.",
-    "unsettled": "Every event of the merged game stands. Whether the racks could be dealt is open.",
-    "written: the merged record": "The merged record can be kept, below.",
-}
 NO_TEXT = "There is no game yet. Choose a file, or paste its text."
 
 
@@ -113,16 +108,8 @@ def two() -> str:
     first, second = (judge().filled(text_in(name)).judged for name in ("first", "second"))
     if not first.strip() or not second.strip():
         return render_template("two.html", here="two", missing="Two sheets are needed: choose two files, or paste two texts.", texts=(first, second))
-    told = judge().compare(first, second)
-    return render_template("compared.html", here="two", told=told, rows=[_row(row) for row in told.rows], first=first, second=second)
-
-
-def _row(row: str) -> dict[str, str]:
-    """A line of a comparison in its parts, if it is about two lines; else as it is."""
-    found = re.fullmatch(r"(.*?) \| (.*?): (.*?) \| (.*?)(?:: (.*))?", row)
-    if not found or not row.startswith("line "):
-        return {"text": MERGED.get(row, shown.sentence(row))}
-    return {"first_at": found[1], "second_at": found[2], "first": found[3], "second": found[4], "right": shown.sentence(found[5] or "")}
+    told = comparison_of(judge().compare(first, second))
+    return render_template("compared.html", here="two", told=told, first=first, second=second)
 
 
 @pages.get("/challenge")

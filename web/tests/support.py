@@ -52,6 +52,30 @@ def free_port() -> int:
         return int(it.getsockname()[1])
 
 
+def slow_program(do: str, seconds: int) -> Path:
+    """The program, but that its `serve` waits for some seconds before it answers a request of one kind."""
+    folder = Path(tempfile.mkdtemp(prefix="slow-"))
+    atexit.register(shutil.rmtree, folder, ignore_errors=True)
+    program = folder / "referee"
+    program.write_text(
+        f"""#!/usr/bin/python3
+import subprocess, sys, time
+
+program = subprocess.Popen([{PROGRAM!r}, *sys.argv[1:]], stdin=subprocess.PIPE if "serve" in sys.argv else None)
+for line in sys.stdin.buffer if program.stdin else ():
+    if b'"do": "{do}"' in line:
+        time.sleep({seconds})
+    program.stdin.write(line)
+    program.stdin.flush()
+if program.stdin:
+    program.stdin.close()
+sys.exit(program.wait())
+"""
+    )
+    program.chmod(0o755)
+    return program
+
+
 class Page:
     """A page that start.sh has started, with the words of the example game, or others."""
 
