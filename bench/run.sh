@@ -68,6 +68,8 @@ record 500 > "$work/right-500"
 record 1000 > "$work/right-1000"
 record 500 1 > "$work/wrong-500"
 record 1000 1 > "$work/wrong-1000"
+# The same without their numbers, as drafts.
+for events in 500 1000; do sed 's/ [^ ]* [^ ]*$//' "$work/right-$events" > "$work/draft-$events"; done
 turns 7 7 > "$work/numbers"
 turns AEI DGL > "$work/tiles"
 turns '' '' > "$work/passes"
@@ -89,6 +91,7 @@ both() {
 }
 both judge 0 20 right ''
 both audit 1 20 wrong ', the last total wrong'
+both fill 0 20 draft ', all numbers missing' "$work/filled.gcg"
 both page 0 20 right '' "$work/page.html"
 batches=3
 both explain 1 1 wrong ', the last total wrong'

@@ -9,11 +9,12 @@ _referee() {
         fi
     done
     case $command in
-        "") options="-h --help -V --version" values="judge archive index audit explain repair compare page annotate build check word convert top tidy board serve rules help" ;;
+        "") options="-h --help -V --version" values="judge archive index audit fill explain repair compare page annotate build check word convert top tidy board serve rules help" ;;
         judge) options="--settle --json --first-field --skip-others --rules -h --help" ;;
         archive) options="--names -0 --null --skip --json --pages --repairs --progress --quiet --first-field --skip-others --rules -h --help" ;;
         index) options="-h --help" ;;
         audit) options="--corrected --json --first-field --skip-others --rules -h --help" ;;
+        fill) options="--next --json --first-field --skip-others --rules -h --help" ;;
         explain) options="--json --first-field --skip-others --rules -h --help" ;;
         repair) options="--number --repaired --json --first-field --skip-others --rules -h --help" ;;
         compare) options="--merged --json --first-field --skip-others --rules -h --help" ;;
@@ -28,7 +29,7 @@ _referee() {
         board) options="--before --json --rules -h --help" ;;
         serve) options="--first-field --skip-others --rules -h --help" ;;
         rules) options="-h --help" ;;
-        help) values="judge archive index audit explain repair compare page annotate build check word convert top tidy board serve rules help" ;;
+        help) values="judge archive index audit fill explain repair compare page annotate build check word convert top tidy board serve rules help" ;;
     esac
     [[ $command != convert || ${COMP_WORDS[COMP_CWORD - 1]} != convert ]] || values="gad1 gad2"
     if [[ $word == -* ]]; then

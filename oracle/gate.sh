@@ -53,6 +53,7 @@ compare_rules 20
 compare_archive 60
 archive_scripts 30
 compare_audits 60
+compare_drafts 60
 compare_objects 30
 compare_explains 60
 compare_repairs 3

@@ -92,6 +92,7 @@ class Client(Differences):
         pair = (self.folder / "words", self.folder / "lexicon")
         with Referee(*pair, program=self.program) as referee:
             self.expect(referee.word("at", "word").verdict == "acceptable" and referee.word("to").status == 1)
+            self.expect(referee.check()["words"] == referee.words and referee.check().verdict == "ok")
             for _ in range(3):
                 os.kill(referee._process.pid, signal.SIGKILL)
                 self.expect(referee.judge(WORD).verdict == "legal", "after it was killed")
@@ -138,9 +139,23 @@ class Client(Differences):
         noted = referee.annotate(WORD.replace("+16 16", "+18 18"))
         self.expect(noted == ">A: DORWAAE 8E WORD +18 18\n#note The play scores 16, but 18 is written.\n", noted)
         self.expect(self.raised(BadInput, lambda: referee.annotate("")).answer.verdict == "no game")
+        self.drafts(referee)
         for number in (0, 101):
             self.raised(BadRequest, lambda: referee.repair(WORD, number=number))
             self.raised(BadRequest, lambda: referee.annotate(WORD, number=number))
+
+    def drafts(self, referee):
+        """Drafts: the record that one makes, its first fault, and what its next line is about."""
+        for draft in (WORD.replace(" +16 16", ""), WORD.replace("+16 16", "+18")):
+            told = referee.fill(draft, filled=True)
+            self.expect(told.text == WORD and told.put_in["totals"] == 1 and told.status == len(told.wrong), told, told.text)
+        self.expect(referee.fill(WORD).text is None and referee.fill(WORD).lines == [] and referee.fill(WORD.encode()).status == 0)
+        bad = self.raised(BadInput, lambda: referee.fill(">A: 8E\n", filled=True)).answer
+        self.expect(bad.fault == {"name": "Fields"} and bad.amiss == "no word", bad)
+        told = referee.next(WORD.replace(" 16\n", "\n"))
+        self.expect(told.turn == 2 and told.bag == 82 and [it["total"] for it in told.players] == [16, 0], told)
+        self.raised(BadRequest, lambda: referee.ask("fill", game=WORD))
+        self.raised(BadRequest, lambda: referee.ask("next", draft=WORD, filled=True))
 
     def threads(self):
         """1,000 requests from 8 threads."""

@@ -1332,6 +1332,7 @@ def served(run):
     run.row(["serve", *pair], 0, ready)
     run.row(["serve", *pair], 0, ready + told, stdin=asked)
     run.row(["serve", *pair], 0, ready + told + told, stdin=f"{asked}\r\n{asked}\n")
+    run.row(["serve", *pair], 0, ready + '{"id":"n","status":0,"answer":{"verdict":"ok","line":null,"fault":null,"words":1}}\n', stdin='{"id":"n","do":"check"}')
     run.row(["serve", "--first-field", "--skip-others", *pair], 0, ready + told, stdin=asked)
     for line, error in [
         ("", "the line is no JSON"),
@@ -1340,6 +1341,7 @@ def served(run):
         ('{"do":1}', "do is no text"),
         ('{"do":"judged"}', 'there is no command \\"judged\\"'),
         ('{"do":"tidy","rack":"A","game":""}', 'tidy has no \\"rack\\"'),
+        ('{"do":"check","game":""}', 'check has no \\"game\\"'),
         ('{"do":"top","game":""}', "top needs rack or line"),
         ('{"do":"word","words":[]}', "word needs words"),
         ('{"do":"board","game":"","line":4294967296}', "line is no number from 0 to 4294967295"),
@@ -1529,6 +1531,125 @@ def audited(run):
     if os.path.exists("/dev/full"):
         run.row(["audit", "word", "word.gad", "line"], 4, error="referee: write failed: standard output: no space left, error 28 of the system", stdout="/dev/full")
         run.row(["audit", "--corrected", "/dev/full", "word", "word.gad", "line"], 4, error="referee: write failed: /dev/full: no space left, error 28 of the system")
+
+
+# What the lines of a draft may lack, or have too many, in the words of the report.
+AMISS = {
+    ">A: AEINRST\n": "After the colon comes neither a position and a word nor a code.",
+    ">A:\n": "After the colon comes neither a position and a word nor a code.",
+    ">A: 8E\n": "After the position comes no word.",
+    ">A: (time)\n": "The line has no score. The rules allow several for a challenge or a penalty, so it has to be written.",
+    ">A: 8E WORD 16 16 16\n": "More than a score and a total come after the word or the code.",
+}
+HELD = "not written: either the bonus or penalty after Or: is missing, or the number is wrong\n"
+
+
+def filled(run):
+    """`fill`: the numbers that are put in, those that are wrong, the verdict, and the record."""
+    run.row(["build", "word", "word.gad"], 0)
+    lead, files = "legal unfinished\nA is ahead by 16\n", ["word", "word.gad", "draft"]
+    wrong, bare = "line 1: score 18, should be 16 (A, 8E WORD)\n", WORD.removesuffix(" +16 16\n")
+    left_out = BY_HAND.replace("  16  +16 ", "\t") + ">B: AT 9G AT +10 " + OTHERS.replace(" +0 016", "")
+    wanted = BY_HAND.replace("  16  +16 ", "\t+16 16") + ">B: AT 9G AT +9 \t9\r\n\r\n>A: - +0 16"
+    for draft, status, out, kept in [
+        (bare, 0, f"put in: 1 score, 1 total\n{lead}", WORD.removesuffix("\n")),
+        (f"{bare} +16\n", 0, f"put in: 0 scores, 1 total\n{lead}", WORD),
+        (f"{bare} +18\n", 1, f"put in: 0 scores, 1 total\n{wrong}{lead}", WORD),
+        (WORD, 0, f"put in: 0 scores, 0 totals\n{lead}", WORD),
+        (TEXTS["line-18"], 1, f"put in: 0 scores, 0 totals\n{wrong}total of A: 18, should be 16\nlegal unfinished\nA is ahead by 16; by the sheet A is ahead by 18\n", WORD),
+        (f"{bare}\n>B: -\n>A: - +0 18\n", 1, "put in: 2 scores, 2 totals\nline 3: sum 18, should be 16 (A, -)\nlegal unfinished\nA is ahead by 16; by the sheet A is ahead by 18\n", WORD + GOING_ON),
+        (f"{bare}\n>B: -\n>A: -\n", 0, f"put in: 3 scores, 3 totals\n{lead}", WORD + GOING_ON),
+        (left_out, 1, "put in: 2 scores, 3 totals\nline 5: score 10, should be 9 (B, 9G AT)\nlegal unfinished\nA is ahead by 7\n", wanted),
+        (TEXTS["untidy"], 0, f"put in: 0 scores, 0 totals\n{lead}", TEXTS["untidy"]),
+        (">A: -\n>A: -\n", 1, "put in: 1 score, 1 total\nillegal line 2: NotYourTurn\n", None),
+        (f"{bare} +18\n>A: -\n", 1, f"put in: 0 scores, 1 total\n{wrong}illegal line 2: NotYourTurn\n", None),
+        (bare.replace("8E", "8D"), 1, "put in: 0 scores, 0 totals\nillegal line 1: MissesCentre\n", None),
+        (">A: ??  -\n>B: ? -\n", 1, "put in: 2 scores, 2 totals\nillegal line 2: TilesShort ?\n", None),
+        (f"{bare}\n>B: -\n>A: - +0 21\n>B: -\n", 1, "put in: 3 scores, 3 totals\nline 3: sum 21, should be 16 (A, -)\nOr: before line 2: A gets 5 points for a failed challenge\n  8 of 8 numbers right\nlegal unfinished\n"
+         f"A is ahead by 16; by the sheet A is ahead by 21\n{HELD}", None),
+        *[(text, 3, f"bad record line 1: Fields\n{why}\n", None) for text, why in AMISS.items()],
+        (">A: -\n>B: 8E\n", 3, "bad record line 2: Fields\nAfter the position comes no word.\n", None),
+        (">A: -\n>B: - +0\n>C: -\n", 3, "bad record line 3: ThirdPlayer\n", None),
+        (">A: W0RD W0RD\n", 3, "bad record line 1: Position\n", None),
+        ("\n" * 1_048_577, 3, "bad record: TooLong\n", None),
+    ]:
+        Path(run.folder, "draft").write_bytes(draft.encode())
+        Path(run.folder, "out").write_bytes(b"as it was")
+        run.row(["fill", *files, "out"], status, out, error="", wrote=b"as it was" if kept is None else kept.encode())
+        for more in ([], ["-"]):
+            run.row(["fill", *files, *more], status, kept or "", error=out.removesuffix("\n"))
+    Path(run.folder, "draft").write_text(bare)
+    run.row(["fill", "word", "word.gad", "-"], 0, WORD.removesuffix("\n"), error=f"put in: 1 score, 1 total\n{lead}".removesuffix("\n"), stdin=bare)
+    run.row(["fill", "--rules", "english.rules", *files, "out"], 0, f"put in: 1 score, 1 total\n{lead}", wrote=WORD.removesuffix("\n").encode())
+    run.row(["fill", "word", "word.gad", "nothing", "out"], 3, "no game\n", error=NO_EVENT["nothing"])
+    for words, status, out in [
+        (["digit", "word.gad", "draft"], 3, "bad word list line 2: BadLetter\n"),
+        (["at", "extra.gad", "draft"], 3, "bad lexicon: Extra A\n"),
+        (["--rules", "tiles.rules", *files], 3, "bad rules line 1: Unknown\n"),
+    ]:
+        Path(run.folder, "out").write_bytes(b"as it was")
+        run.row(["fill", *words, "out"], status, out, wrote=b"as it was")
+    run.row(["fill", "word", "word.gad", "nowhere"], 4, error="referee: cannot open nowhere: no such file")
+    run.row(["fill", *files, "no/where"], 4, error="referee: cannot open no/where: no such file")
+    for words in (["word", "word.gad"], [*files, "out", "out"], ["--next", *files, "out"], ["--draft", *files], ["-", "word.gad", "-"], [*files, "draft"], [*files, "word"]):
+        run.row(["fill", *words], 64, error=None)
+    run.expect("a draft that is OUT stays as it was", Path(run.folder, "draft").read_text() == bare)
+    whole = Path(__file__).resolve().parents[2] / "examples"
+    pair = [str(whole / "words.txt"), str(whole / "words.gad")]
+    run.row(["fill", *pair, str(whole / "draft.gcg"), "out"], 0, "put in: 43 scores, 45 totals\nlegal complete\nBob won by 34\n", wrote=(whole / "game.gcg").read_bytes())
+    filled_in_json(run, bare, files)
+    next_lines(run, bare, files)
+
+
+def filled_in_json(run, bare, files):
+    """`fill --json`: the object of `audit`, and what was put in."""
+    players = [{"nick": "A", "name": None}, {"nick": None, "name": None}]
+
+    def told(draft, status, out="", **more):
+        Path(run.folder, "draft").write_text(draft)
+        answer = {"verdict": "legal", "line": None, "fault": None, "ending": "unfinished", "players": players, "wrong": [], "ahead": {"player": 1, "by": 16},
+                  "ahead_by_sheet": {"player": 1, "by": 16}, "amount": None, "unread_lines": []} | more
+        text = json.dumps(answer, separators=(",", ":")) + "\n"
+        run.row(["fill", "--json", *files], status, text)
+        Path(run.folder, "out").write_bytes(b"as it was")
+        run.row(["fill", "--json", *files, "out"], status, text, wrote=out.encode() or b"as it was")
+
+    line = {"line": 1, "score": 16, "total": 16, "score_put_in": True}
+    told(f"{bare}\n", 0, WORD, put_in={"scores": 1, "totals": 1}, lines=[line])
+    told(f"{bare} +16\n", 0, WORD, put_in={"scores": 0, "totals": 1}, lines=[line | {"score_put_in": False}])
+    told(WORD, 0, WORD, put_in={"scores": 0, "totals": 0}, lines=[])
+    refused = {"verdict": "illegal", "line": 2, "fault": {"name": "NotYourTurn"}, "ending": None, "ahead": None, "ahead_by_sheet": None}
+    told(f"{bare}\n>A: -\n", 1, **refused, put_in={"scores": 1, "totals": 1}, lines=[line])
+    for text, name in ((">A: 8E\n", "no word"), (">A: AB\n", "no event"), (">A: (challenge)\n", "no score"), (">A: - 1 2 3\n", "too many")):
+        for more in ([], ["--next"]):
+            Path(run.folder, "draft").write_text(text)
+            run.row(["fill", "--json", *more, *files], 3, refusal("bad record", 1, {"name": "Fields"}, amiss=name))
+    Path(run.folder, "draft").write_text(TEXTS["third"])
+    run.row(["fill", "--json", *files], 3, refusal("bad record", 3, {"name": "ThirdPlayer"}, amiss=None))
+    run.row(["fill", "--json", "word", "word.gad", "nowhere"], 4, refusal("cannot open", file="nowhere"), error="referee: cannot open nowhere: no such file")
+
+
+def next_lines(run, bare, files):
+    """`fill --next`: whose turn it is, the totals, and the tiles on the racks and in the bag."""
+    first = "A: total 16, 7 tiles\nplayer 2: total 0, 7 tiles\nbag: 82 tiles\n"
+    start = "player 1: total 0, 7 tiles\nplayer 2: total 0, 7 tiles\nbag: 86 tiles\n"
+    sides = [{"nick": "A", "name": None, "total": 16, "tiles": 7}, {"nick": None, "name": None, "total": 0, "tiles": 7}]
+    state = {"verdict": "ok", "line": None, "fault": None, "complete": False, "turn": 2, "out": None, "players": sides, "bag": 82}
+    for draft, status, out, answer in [
+        (bare, 0, f"next: player 2\n{first}", state),
+        (f"{bare} +18\n", 0, f"next: player 2\n{first}", state),
+        (f"{bare}\n>B: -\n", 0, "next: A\n" + first.replace("player 2", "B"), state | {"turn": 1, "players": [sides[0], sides[1] | {"nick": "B"}]}),
+        (f"#player2 B Bo Bell\n{bare}\n", 0, f"next: B\n" + first.replace("player 2", "B"), state | {"players": [sides[0], sides[1] | {"nick": "B", "name": "Bo Bell"}]}),
+        ("", 0, f"next: either player\n{start}", state | {"turn": None, "players": [it | {"nick": None, "total": 0} for it in sides], "bag": 86}),
+        (f"{bare}\n>A: -\n", 1, f"illegal line 2: NotYourTurn\nnext: player 2\n{first}", state | {"verdict": "illegal", "line": 2, "fault": {"name": "NotYourTurn"}}),
+        (PASSES.replace(" +0 0", "") + ">A: AEINRST (AEINRST)\n>B: AEINRST (AEINRST)\n", 0, "the game is complete\nA: total -7, 7 tiles\nB: total -7, 7 tiles\nbag: 86 tiles\n", None),
+    ]:
+        Path(run.folder, "draft").write_text(draft)
+        run.row(["fill", "--next", *files], status, out, error="")
+        if answer:
+            run.row(["fill", "--json", "--next", *files], status, json.dumps(answer, separators=(",", ":")) + "\n", error="")
+    Path(run.folder, "draft").write_text(">A: 8E\n")
+    run.row(["fill", "--next", *files], 3, "bad record line 1: Fields\nAfter the position comes no word.\n", error="")
 
 
 DEALT = "The rules allow every event, and a deal of the tiles gives the players every rack that is shown.\n"
@@ -2244,6 +2365,7 @@ def put_out(run):
         (["page", "digit", "word.gad", "line", "-"], (3, b"", b"bad word list line 2: BadLetter\n")),
         (["audit", "--corrected", "-", "word", "word.gad", "line-17"], (1, WORD.encode(), b"line 1: sum 17, should be 16 (A, 8E WORD)\nlegal unfinished\nA is ahead by 16; by the sheet A is ahead by 17\n")),
         (["audit", "--corrected", "-", "word", "word.gad", "turn"], (1, b"", b"illegal line 2: NotYourTurn\n")),
+        (["fill", "word", "word.gad", "short-line"], (0, b">A: 8E WORD +16 16\n", b"put in: 0 scores, 1 total\nlegal unfinished\nA is ahead by 16\n")),
         (["audit", "--corrected", "-", "at", "extra.gad", "line"], (3, b"", b"bad lexicon: Extra A\nreferee: extra.gad is the lexicon of another list than at: make its own by referee build\n")),
     ]:
         run.expect(words, said(run, words) == ended)
@@ -2575,7 +2697,7 @@ def helped(run):
     run.row(["rules"], 0, ENGLISH_RULES)
     for words in (["help"], ["--help"], ["-h"], ["judge", "--help"], ["judge", "-h"], ["help", "help"]):
         run.row(words, 0, None)
-    for command in ("judge", "archive", "audit", "explain", "repair", "page", "board", "build", "check", "word", "convert", "top", "tidy", "serve", "rules"):
+    for command in ("judge", "archive", "audit", "fill", "explain", "repair", "page", "board", "build", "check", "word", "convert", "top", "tidy", "serve", "rules"):
         run.row(["help", command], 0, None)
         run.row([command, "--help"], 0, None)
     if os.path.exists("/dev/full"):
@@ -2606,7 +2728,7 @@ def main():
     with tempfile.TemporaryDirectory() as folder:
         files(folder)
         run = Runner(os.path.abspath(sys.argv[1]), folder)
-        for part in (judged, settled, built_and_checked, converted, topped, topped_before, ruled, tidied, boarded, widest, from_standard_input, fielded, skipped, words_ruled, archived, served, audited, repairs_listed, compared, explained, explain_rows, paged, annotated, kept_bests, counted_points, on_a_terminal, in_json, lines_unread, put_out, overwritten, hinted, misordered, broken, helped, misused):
+        for part in (judged, settled, built_and_checked, converted, topped, topped_before, ruled, tidied, boarded, widest, from_standard_input, fielded, skipped, words_ruled, archived, served, audited, filled, repairs_listed, compared, explained, explain_rows, paged, annotated, kept_bests, counted_points, on_a_terminal, in_json, lines_unread, put_out, overwritten, hinted, misordered, broken, helped, misused):
             part(run)
         if sys.argv[2:] == ["large"]:
             converted_large(run)

@@ -59,6 +59,8 @@ ROWS = [  # the command, the words, the record
     (["explain", "words", "lexicon", "game"], "AT\n", ">A: - +0 0\n>B: - +0 0\n>C: - +0 0\n"),
     (["page", "words", "lexicon", "game", "out"], ON_WORD, TURNS),
     (["page", "words", "lexicon", "game", "out"], "WORD\n", "#player1 A <b>\xe9\n" + WORD.replace("16 16", "18 18")),
+    (["fill", "words", "lexicon", "game", "out"], ON_WORD, TURNS.replace(" +9 9", "").replace(" -9 0", "").replace(" 25", "")),
+    (["fill", "--next", "words", "lexicon", "game"], ON_WORD, TURNS.replace(" +9 9", "")),
     (["build", "words", "out"], "AT\n", ""),
     (["check", "words", "lexicon"], "AT\n", ""),
     (["convert", "gad2", "lexicon", "out"], "AT\n", ""),

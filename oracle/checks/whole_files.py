@@ -107,6 +107,7 @@ COMMANDS = {  # the command line, and the files that it writes
     "convert": (["convert", "gad2", "lexicon", "out"], ["out"]),
     "page": (["page", "words", "lexicon", "game", "out"], ["out"]),
     "audit": (["audit", "--corrected", "out", "words", "lexicon", "sheet"], ["out"]),
+    "fill": (["fill", "words", "lexicon", "sheet", "out"], ["out"]),
     "archive": (["archive", "--pages", "pages", "words", "lexicon", "game", "sheet"], ["pages/game%.html", "pages/sheet%.html", INDEX]),
 }
 KILLED = ("build", "page", "archive", "audit")

@@ -73,7 +73,7 @@ def sheets_request(game):
 def some_request(game):
     """A request about a game, and the words of the command line that ask the same of the file `game`; none where no command does."""
     text, at, number = game.decode("latin-1").encode("ascii", "replace").decode(), some_line(game), random.choice([None, 1, 9, 10, 11, 40, 100])
-    do = random.choice(["judge", "judge", "explain", "audit", "board", "top", "word", "tidy", "page", "repair", "compare", "annotate"])
+    do = random.choice(["judge", "judge", "explain", "audit", "board", "top", "word", "check", "tidy", "page", "repair", "compare", "annotate"])
     before = [] if at is None else ["--before", str(at)]
     if do == "judge":
         settle, best = likely(0.5), likely(0.7)
@@ -93,6 +93,8 @@ def some_request(game):
     if do == "top":
         rack = random.choice(["AB1", "ABCDEFGH", "é"]) if likely(0.1) else in_either_case(random_rack(TILES)) if at is None or likely(0.5) else None
         return {"do": do, "game": text, "line": at, "rack": rack, "number": number}, ["top", "--json", *before, *([] if number is None else ["--number", str(number)]), *([] if rack is None else [rack])]
+    if do == "check":
+        return {"do": do}, ["check", "--json"]
     if do == "word":
         return {"do": do, "words": random.choices(WORDS[:5] if likely(0.7) else WORDS, k=random.randint(1, 4))}, None
     return {"do": do, "game": text}, {"audit": ["audit", "--json"], "tidy": ["tidy"]}[do]
@@ -129,7 +131,7 @@ class Served(Differences):
         for (request, command), answer in zip(asked, told):
             self.compare(words, lexicon, request, json.loads(answer), text, answer)
             if command and likely(0.3):
-                self.compare_command(json.loads(request), command, by if command[0] not in ("tidy",) else [], pair, json.loads(answer), answer)
+                self.compare_command(json.loads(request), command, by if command[0] not in ("tidy", "check") else [], pair, json.loads(answer), answer)
 
     def some_asked(self, events):
         """Requests, each with the words of the command line that ask the same, and lines that are none."""
@@ -193,7 +195,8 @@ class Served(Differences):
             self.put(file, request[file].encode())
         rack = options.pop() if name == "top" and request.get("rack") is not None else None
         at = options.pop() if name == "explain" and request.get("line") is not None else None
-        files = ["game"] if name in ("tidy", "board") else [*pair, *(["first", "second"] if name == "compare" else ["game"])]
+        sheets = {"compare": ["first", "second"], "check": []}.get(name, ["game"])
+        files = ["game"] if name in ("tidy", "board") else [*pair, *sheets]
         behind = [it for it in (rack, at) if it is not None] + (["-"] if name in ("page", "annotate") else [])
         out = {"repair": "--repaired", "compare": "--merged"}.get(name) if "--json" not in options else None
         (self.folder / "out").unlink(missing_ok=True)

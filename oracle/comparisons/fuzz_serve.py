@@ -24,13 +24,17 @@ VALUES = ["", "x", 0, 1, -1, 1.5, 10**30, True, False, None, [], {}, [[]], ["AT"
 
 def some_request():
     """A request as a client may write it."""
-    do = random.choice(["judge", "explain", "audit", "board", "top", "word", "tidy", "page", "repair", "compare", "annotate", "judged"])
+    do = random.choice(["judge", "explain", "audit", "board", "top", "word", "check", "tidy", "page", "repair", "compare", "annotate", "fill", "next", "judged"])
     asked = {"id": random.choice([1, "a", 2**64 - 1, -(2**63), 1e300, None]), "do": do, "game": random.choice(GAMES)}
     if do == "word":
         asked = {"do": do, "words": random.choice([["AT"], ["at", "QI"], ["A"]])}
+    if do == "check":
+        asked = {"do": do}
     if do == "compare":
         asked = {"id": random.choice([1, "a", None]), "do": do, "first": random.choice(GAMES), "second": random.choice(GAMES)}
-    for key in random.sample(["first", "second", "merged", "repaired", "number", "line", "rack", "number", "settle", "best", "corrected", "likely", "words", "id", "do", "game", "other"], random.choice([0, 0, 0, 1, 2])):
+    if do in ("fill", "next"):
+        asked = {"id": random.choice([1, "a", None]), "do": do, "draft": random.choice([*GAMES, ">A: 8E WORD\n", ">A: DORWAAE 8E\n"])}
+    for key in random.sample(["first", "second", "merged", "repaired", "draft", "filled", "number", "line", "rack", "number", "settle", "best", "corrected", "likely", "words", "id", "do", "game", "other"], random.choice([0, 0, 0, 1, 2])):
         asked[key] = random.choice(VALUES)
     return json.dumps(asked, ensure_ascii=random.random() < 0.5).encode()
 

@@ -11,9 +11,9 @@ from deals import settled_ways
 from objects import head, refused, unread_in, verdict_of
 from pairs import pairs
 from repair_texts import choice, pair_lines, position, with_change, with_numbers
-from repairs import AnyHands, Front, has_likely, lines, many_tried, most_left, repairs, repairs_below
+from repairs import WRONG_NUMBER, AnyHands, Front, has_likely, lines, many_tried, most_left, repairs, repairs_below
 from rules import ENGLISH
-from sheet_slips import has_blank, is_play, of_bad_text, of_text
+from sheet_slips import has_blank, is_play, is_written, of_bad_text, of_text
 
 MOST_EVENTS, MOST_ALIKE = 4, 27
 CODES = {"pass": "-", "withdraw": "--", "challenge": "(challenge)", "time": "(time)"}
@@ -291,7 +291,8 @@ def bad_repaired(game, told, listed, rules):
     """What is said of a text that is not a record."""
     found = of_bad_text(game, listed, rules)
     slips = [line_object(it) for it in found]
-    return Repaired(told | {"line_slips": slips}, all(it.sheet.dealt for it in found))
+    kept = found[0].sheet.repair.right() if is_written(found, WRONG_NUMBER) else None
+    return Repaired(told | {"line_slips": slips}, all(it.sheet.dealt for it in found), kept)
 
 
 def line_object(found):

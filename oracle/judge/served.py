@@ -8,7 +8,7 @@ from answers import VERDICTS, answered, lines_of, words_of
 from audits import on_line
 from comparisons import compared_objects
 from deals import settled_verdicts
-from objects import audited_objects, boarded_object, explained_objects, head, judged_objects, refused, topped_object
+from objects import audited_objects, boarded_object, checked_object, explained_objects, head, judged_objects, refused, topped_object
 from records import tidy
 from repair_objects import repaired_objects
 
@@ -20,14 +20,17 @@ KEYS = {
     "board": {"game", "line"},
     "top": {"game", "line", "rack", "number"},
     "word": {"words"},
+    "check": set(),
     "tidy": {"game"},
     "page": {"game", "likely"},
     "repair": {"game", "number", "repaired"},
     "compare": {"first", "second", "merged"},
     "annotate": {"game", "number"},
+    "fill": {"draft", "filled"},
+    "next": {"draft"},
 }
-NEEDED = {"word": ("words",), "compare": ("first", "second")}
-TEXTS, FLAGS = ("game", "first", "second", "rack"), ("settle", "best", "corrected", "likely", "repaired", "merged")
+NEEDED = {"word": ("words",), "check": (), "compare": ("first", "second"), "fill": ("draft",), "next": ("draft",)}
+TEXTS, FLAGS = ("game", "first", "second", "draft", "rack"), ("settle", "best", "corrected", "likely", "repaired", "merged", "filled")
 STATUSES = {"ok": 0, "legal": 0, "acceptable": 0, "illegal": 1, "not acceptable": 1, "unsettled": 2, "agree": 0, "differ": 1}
 
 
@@ -152,6 +155,8 @@ def objects_for(words, lexicon, do, said, text):
         return [topped_object(words, lexicon, game, said.get("rack"), text, said.get("number", 10), line)]
     if do == "word":
         return [ruled(words_of(words), said["words"])]
+    if do == "check":
+        return [checked_object(words, lexicon)]
     if do in ("page", "annotate"):
         return explained_objects(words, lexicon, game, None, text)
     if do == "repair":

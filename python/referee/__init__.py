@@ -150,6 +150,10 @@ class Referee:
         """Whether words are acceptable."""
         return self.ask("word", words=words)
 
+    def check(self) -> Answer:
+        """That the file is the lexicon of the list, and how many words the list has."""
+        return self.ask("check")
+
     def tidy(self, game: Game) -> str:
         """The normal form of a record."""
         return self.ask("tidy", game=text_of(game)).text or ""
@@ -170,6 +174,14 @@ class Referee:
     def annotate(self, game: Game, *, number: Optional[int] = None) -> str:
         """A sheet with notes: after each turn its best play, or as many as are said; and after the line that is refused why it is."""
         return self.ask("annotate", game=text_of(game), number=number).text or ""
+
+    def fill(self, draft: Game, *, filled: bool = False) -> Answer:
+        """Puts into a draft the scores and totals that it lacks. Where `filled` is asked for and the record is to be written, that is the `text` of the answer."""
+        return self.ask("fill", draft=text_of(draft), filled=filled)
+
+    def next(self, draft: Game) -> Answer:
+        """What the next line of a draft is about: whose turn it is, the totals, and the tiles on the racks and in the bag."""
+        return self.ask("next", draft=text_of(draft))
 
     def ask(self, do: str, *, timeout: Optional[float] = None, **members: Any) -> Answer:
         """The answer to a request with these members; one that is None is left out. With `timeout` that many seconds count for this request."""

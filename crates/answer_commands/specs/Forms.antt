@@ -3,11 +3,17 @@ use Rattle.std.specs.Prelude.{◌≡◌, ⊤, Result, Ok, Err, None}
 use Rattle.call_stages.specs.declared.decisions.Decision.{Decision}
 use Rattle.serve_answers.specs.declared.printed.Printed.{Printed}
 use Rattle.serve_answers.specs.declared.replies.Reply.{Reply}
+use Rattle.reply_texts.specs.Words.{IsInWords}
 use Rattle.answer_commands.specs.declared.forms.Form.{Form}
 use Rattle.answer_commands.specs.declared.forms.Form.TheVariants as form
 
 -- in words, a bad input is reported by its line alone
+abbrev pub IsLineOf : Decision → Printed → Type 0
+IsLineOf d printed = (printed.report.items ≡ d.report.items) × (printed.kept ≡ None)
+
 abbrev pub IsWrittenAs : Form → Result Reply Decision → Printed → Type 0
-IsWrittenAs form.Words (Err d) printed = (printed.report.items ≡ d.report.items) × (printed.kept ≡ None)
-IsWrittenAs form.Words (Ok reply) printed = ⊤
+IsWrittenAs form.Words (Err d) printed = IsLineOf d printed
+IsWrittenAs form.Words (Ok reply) printed = IsInWords reply printed
+IsWrittenAs form.EachWord (Err d) printed = IsLineOf d printed
+IsWrittenAs form.EachWord (Ok reply) printed = ⊤
 IsWrittenAs form.Object found printed = ⊤

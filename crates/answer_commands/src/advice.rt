@@ -7,8 +7,13 @@ use exit_statuses::Exit;
 use serve_requests::Task;
 use std::rt::Runtime;
 
-/// If a sheet is not a game, says why, in addition to the report on it; `explain` itself says what is wrong with a bad record. Says which lines are not read
-/// although they look like events.
+/// Whether the report on a bad record says itself what is wrong with it, or the text need not be a record.
+fn says_why(task: Task<'_>) -> bool {
+    matches!(task, Task::Explain { .. } | Task::Fill { .. } | Task::Next)
+}
+
+/// If a sheet is not a game, says why, in addition to the report on it, unless that says it itself. Says which lines are not read although they look like
+/// events.
 pub fn advise<R: Runtime + AllocGlobal>(
     rt: &R,
     name: &str,
@@ -20,7 +25,7 @@ pub fn advise<R: Runtime + AllocGlobal>(
     if exit == Exit::BadInput {
         if is_record(rt.alloc(), front) {
             advise_no_game(rt, name, front);
-        } else if !matches!(task, Task::Explain { .. }) {
+        } else if !says_why(task) {
             advise_bad_record(rt, name, front);
         }
     }

@@ -7,11 +7,12 @@ use crate::kept_files::KeptFile;
 use crate::reports::{name_beside, report_beside};
 use crate::tasks::{Asked, asked_of};
 use crate::tops::{is_rack, refuse_rack};
+use call_stages::RunFault;
 use command_files::{
-    Inputs, Source, UsedOutput, advise_unread, give_hint, given_up, open_inputs, open_sheet,
-    tell_others, told_in_json, used_source,
+    InputFile, Inputs, SheetFile, Source, UsedOutput, advise_unread, give_hint, given_up,
+    open_inputs, open_sheet, tell_others, told_in_json, used_source,
 };
-use command_line::{GameFiles, GameRequest, PlaysAsked};
+use command_line::{GameFiles, GameRequest, PairFiles, PlaysAsked};
 use exit_statuses::{Exit, Trouble};
 use reply_calls::{Ended, OneSheet, answer_sheet};
 use serve_requests::Task;
@@ -20,12 +21,44 @@ use std::rt::Runtime;
 /// Says on standard error what may help with a bad input.
 pub(crate) fn hint<'a, R: Runtime + AllocGlobal>(
     rt: &R,
-    files: GameFiles<'a>,
+    pair: PairFiles<'a>,
     inputs: &Inputs<R::File, Source<R>>,
     ended: &Ended,
 ) {
     if let Some(decision) = &ended.refused {
-        give_hint(rt, decision.report.as_slice(), &inputs.known(files.pair));
+        give_hint(rt, decision.report.as_slice(), &inputs.known(pair));
+    }
+}
+
+/// Says on standard error what helps beside the answer on a sheet.
+fn help<'a, R: Runtime + AllocGlobal>(
+    rt: &R,
+    files: GameFiles<'a>,
+    task: Task<'_>,
+    form: Form,
+    inputs: &Inputs<R::File, Source<R>>,
+    sheet: &SheetFile<Source<R>>,
+    ended: &Ended,
+) {
+    if form == Form::Object {
+        advise_unread(rt, files.game, sheet.inner().front());
+    } else if ended.refused.is_none() {
+        advise(rt, files.game, task, ended.exit, sheet);
+    } else {
+        hint(rt, files.pair, inputs, ended);
+    }
+}
+
+/// Why a call ended early: the text could not be kept, or else an input could not be read or the report could not be written.
+pub(crate) fn stopped<'a>(
+    kept: Option<Trouble<'a>>,
+    fault: RunFault,
+    inputs: &[InputFile<'a>],
+    written: UsedOutput<'a>,
+) -> Trouble<'a> {
+    match kept {
+        Some(trouble) => trouble,
+        None => given_up(fault, inputs, written),
     }
 }
 
@@ -58,24 +91,20 @@ fn answer_one<'a, R: Runtime + AllocGlobal>(
     tell_others(rt, files.pair.words.name, &inputs.words);
     match outcome {
         Ok(ended) => {
-            if form == Form::Object {
-                advise_unread(rt, files.game, game.sheet.inner().front());
-            } else if ended.refused.is_none() {
-                advise(rt, files.game, task, ended.exit, &game.sheet);
-            } else {
-                hint(rt, files, &inputs, &ended);
-            }
+            help(rt, files, task, form, &inputs, &game.sheet, &ended);
             Ok(ended.exit)
         }
         Err(fault) => {
-            if let Some(trouble) = kept.trouble() {
-                return Err(trouble);
-            }
             let [rules, words, lexicon] = inputs.used(files.rules, files.pair);
             let sheet = used_source(files.game, &game.sheet);
             let writer = report.into_inner();
             let written = UsedOutput::new(name_beside(out), &writer);
-            Err(given_up(fault, &[rules, words, lexicon, sheet], written))
+            Err(stopped(
+                kept.trouble(),
+                fault,
+                &[rules, words, lexicon, sheet],
+                written,
+            ))
         }
     }
 }

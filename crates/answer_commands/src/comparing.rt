@@ -1,34 +1,40 @@
 //! `compare`: two players' sheets of one game.
 
 use crate::advice::{advise_first, advise_second};
-use crate::answering::hint;
+use crate::answering::{hint, stopped};
 use crate::forms::Form;
 use crate::kept_files::KeptFile;
 use crate::reports::{name_beside, report_beside};
 use command_files::{
-    SheetFile, Source, UsedOutput, advise_unread, given_up, open_inputs, open_sheet, tell_others,
+    Inputs, SheetFile, Source, UsedOutput, advise_unread, open_inputs, open_sheet, tell_others,
     used_source,
 };
 use command_line::GameFiles;
 use exit_statuses::{Exit, Trouble};
-use reply_calls::{TwoSheets, answer_sheets};
+use reply_calls::{Ended, TwoSheets, answer_sheets};
 use std::rt::Runtime;
 
 /// Says on standard error what helps beside the answer on two sheets.
-fn advise_both<R: Runtime + AllocGlobal>(
+fn help<'a, R: Runtime + AllocGlobal>(
     rt: &R,
-    first: &str,
+    files: GameFiles<'a>,
     second: &str,
-    sheets: &TwoSheets<SheetFile<Source<R>>>,
     form: Form,
+    inputs: &Inputs<R::File, Source<R>>,
+    sheets: &TwoSheets<SheetFile<Source<R>>>,
+    ended: &Ended,
 ) {
-    if form == Form::Object {
+    if ended.refused.is_some() {
+        if form == Form::Words {
+            hint(rt, files.pair, inputs, ended);
+        }
+    } else if form == Form::Object {
         advise_unread(rt, second, sheets.second.inner().front());
-        advise_unread(rt, first, sheets.first.inner().front());
-        return;
+        advise_unread(rt, files.game, sheets.first.inner().front());
+    } else {
+        advise_second(rt, second, &sheets.first, &sheets.second);
+        advise_first(rt, files.game, &sheets.first);
     }
-    advise_second(rt, second, &sheets.first, &sheets.second);
-    advise_first(rt, first, &sheets.first);
 }
 
 /// Opens the files of two sheets, makes the call, and says what helps beside the answer.
@@ -60,23 +66,17 @@ pub(crate) fn compare<'a, R: Runtime + AllocGlobal>(
     tell_others(rt, files.pair.words.name, &inputs.words);
     match outcome {
         Ok(ended) => {
-            if ended.refused.is_none() {
-                advise_both(rt, files.game, second, &sheets, form);
-            } else if form == Form::Words {
-                hint(rt, files, &inputs, &ended);
-            }
+            help(rt, files, second, form, &inputs, &sheets, &ended);
             Ok(ended.exit)
         }
         Err(fault) => {
-            if let Some(trouble) = kept.trouble() {
-                return Err(trouble);
-            }
             let [rules, words, lexicon] = inputs.used(files.rules, files.pair);
             let one = used_source(files.game, &sheets.first);
             let other = used_source(second, &sheets.second);
             let writer = report.into_inner();
             let written = UsedOutput::new(name_beside(out), &writer);
-            Err(given_up(fault, &[rules, words, lexicon, one, other], written))
+            let used = [rules, words, lexicon, one, other];
+            Err(stopped(kept.trouble(), fault, &used, written))
         }
     }
 }

@@ -1,7 +1,5 @@
 //! The forms in which a reply is written.
 ghost use Rattle.std.specs.Prelude.{IfOk};
-ghost use Rattle.lex_check.specs.Pairs.{list_in};
-ghost use Rattle.reply_calls.specs.Found.{IsMakerOf};
 ghost use Rattle.answer_commands.specs.declared.forms.Form.TheVariants as form;
 ghost use Rattle.answer_commands.specs.Forms.{IsWrittenAs};
 
@@ -10,8 +8,8 @@ use command_files::{Digests, GivenFiles, RulesFile, Words, digests_of};
 use command_line::PROGRAM;
 use devices::FromRead;
 use page_answers::Maker;
-use reply_calls::Rendering;
-use reply_texts::{Body, as_object, in_words, refusal_object};
+use reply_calls::{PageMaker, Rendering};
+use reply_texts::{Body, as_object, each_in_words, in_words, refusal_object};
 use serve_answers::{Printed, Reply};
 use std::alloc::{AllocError, Global};
 use std::io::Read;
@@ -21,6 +19,8 @@ use std::io::Read;
 pub enum Form {
     /// In words, for people.
     Words,
+    /// In words, with a line for each word that is asked about.
+    EachWord,
     /// As a JSON object, for programs.
     Object,
 }
@@ -30,6 +30,17 @@ fn words_of(alloc: Global, found: &Result<Reply, Decision>) -> Result<Printed, A
     ensures { IfOk result (IsWrittenAs form.Words found.now) }
 {
     match found {
+        Ok(reply) => in_words(alloc, reply),
+        Err(decision) => Printed::of_bytes(alloc, decision.report.as_slice()),
+    }
+}
+
+/// What was found, in words, with a line for each word that is asked about.
+fn each_of(alloc: Global, found: &Result<Reply, Decision>) -> Result<Printed, AllocError>
+    ensures { IfOk result (IsWrittenAs form.EachWord found.now) }
+{
+    match found {
+        Ok(Reply::Ruled(ruled)) => each_in_words(alloc, ruled),
         Ok(reply) => in_words(alloc, reply),
         Err(decision) => Printed::of_bytes(alloc, decision.report.as_slice()),
     }
@@ -49,29 +60,23 @@ fn object_of(alloc: Global, found: &Result<Reply, Decision>) -> Result<Printed, 
     }
 }
 
-/// What pages are made by, with the digests of the inputs.
-pub fn maker_of<F: Read + Drop, S: Read + Drop>(
-    given: &GivenFiles<'_, F, S>,
-) -> Result<Maker, AllocError>
-    ensures { IfOk result (IsMakerOf (list_in given.now.pair.now)) }
-{
-    let Digests { list, rules } = digests_of(given)?;
-    Ok(Maker {
-        program: PROGRAM,
-        words: given.pair.list().len(),
-        list,
-        rules,
-    })
+impl<F: Read + Drop, S: Read + Drop> PageMaker<RulesFile<F>, FromRead<Words<S>>> for Form {
+    /// What pages are made by, with the digests of the inputs.
+    fn maker(&self, _alloc: Global, given: &GivenFiles<'_, F, S>) -> Result<Maker, AllocError> {
+        let Digests { list, rules } = digests_of(given)?;
+        Ok(Maker {
+            program: PROGRAM,
+            words: given.pair.list().len(),
+            list,
+            rules,
+        })
+    }
 }
 
-impl<F: Read + Drop, S: Read + Drop> Rendering<RulesFile<F>, FromRead<Words<S>>> for Form {
+impl Rendering for Form {
     ghost use Rattle.answer_commands.specs.Forms.{IsWrittenAs};
 
     ghost shows = { λ form found printed. IsWrittenAs form found printed };
-
-    fn maker(&self, _alloc: Global, given: &GivenFiles<'_, F, S>) -> Result<Maker, AllocError> {
-        maker_of(given)
-    }
 
     fn render(
         &self,
@@ -80,6 +85,7 @@ impl<F: Read + Drop, S: Read + Drop> Rendering<RulesFile<F>, FromRead<Words<S>>>
     ) -> Result<Printed, AllocError> {
         match self {
             Form::Words => words_of(alloc, found),
+            Form::EachWord => each_of(alloc, found),
             Form::Object => object_of(alloc, found),
         }
     }

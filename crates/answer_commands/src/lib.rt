@@ -1,5 +1,5 @@
-//! The commands that answer with a reply: `explain`, `audit`, `repair`, `annotate`, `page` and `compare`, in words or as a JSON object; and those that
-//! have an object besides the text of a call: `judge`, `top`, `board` and `check`.
+//! The commands that answer with a reply: `explain`, `audit`, `repair`, `annotate`, `page` and `compare`, in words or as a JSON object; `word`; and those
+//! that have an object besides the text of a call: `judge`, `top`, `board` and `check`.
 //!
 //! They open the files that are named, make a call of `reply_calls`, and say on standard error what helps beside the answer.
 #![tactic(auto)]
@@ -8,13 +8,13 @@ mod advice;
 mod answering;
 mod boards;
 mod comparing;
-mod counts;
 mod forms;
 mod kept_files;
+mod pairs;
 mod reports;
 mod tasks;
 mod tops;
 
 pub use answering::answer_game;
 pub use boards::board_in_json;
-pub use counts::check_in_json;
+pub use pairs::{check_in_json, rule_on_words};

@@ -51,5 +51,9 @@ pub(crate) fn asked_of<'a>(request: GameRequest<'a>, json: bool) -> Asked<'a> {
             corrected: out.is_some(),
         }),
         GameRequest::Sheet(SheetTask::Case(task)) => asked_of_case(task, json),
+        GameRequest::Sheet(SheetTask::Fill(out)) => Asked::OfOne(Task::Fill {
+            filled: out.is_some(),
+        }),
+        GameRequest::Sheet(SheetTask::Next) => Asked::OfOne(Task::Next),
     }
 }

@@ -4,33 +4,29 @@ ghost use Rattle.devices.specs.Devices.{HasRoom};
 ghost use Rattle.archive_commands.specs.Telling.{AreGamesTold, games_later};
 
 use crate::done::Done;
-use crate::likely::{likely_fields, likely_if};
 use crate::names::{Given, Listed, Names};
 use crate::pages::Pages;
 use crate::progress::Progress;
-use archive_lines::{Fields, LikelyFields, PageField, Unread, push_json_line, push_tab_line};
+use archive_answers::{ArchivedGame, Asked, RunLines, tell_game, unread_game};
+use archive_lines::Unread;
 use call_stages::{Question, RulesSource, RunFault, ask};
 use command_files::{
-    GivenFiles, Inputs, LexiconFile, RulesFile, Source, Told, UsedOutput, Words, digests_of,
-    given_up, is_folder, open, open_inputs, open_source, refuse, sheet_of, shown, tell_others,
+    Digests, GivenFiles, Inputs, LexiconFile, RulesFile, Source, Told, UsedOutput, Words,
+    digests_of, given_up, is_folder, open, open_inputs, open_source, refuse, shown, tell_others,
     write,
 };
 use command_line::{Archive, ArchiveNames, PROGRAM, Progressing};
 use devices::{FromRead, Input};
 use either::Either;
-use exit_statuses::{Exit, Trouble, exit_of_line};
-use game_case::{Entry, archive_entry};
+use exit_statuses::{Exit, Trouble};
 use lex_check::Checked;
 use lost_inputs::RunInputs;
-use name_texts::Encoding;
 use page_answers::Maker;
 use ref_tiles::Rules;
-use repair_answers::Likely;
 use std::alloc::{AllocError, Global};
 use std::io::{self, BufReader, Read};
 use std::rt::{Files, Runtime};
 use std::str;
-use unread_lines::unread_lines;
 use watching::Reason;
 
 /// Judges the games of an archive, each by the settled verdict, and writes a line for each to standard output before it reads the next
@@ -51,12 +47,9 @@ pub fn archive<'r, 'a, R: Runtime + AllocGlobal>(
     };
     let run = Run {
         done,
-        json: request.json,
-        repairs: request.repairs,
         is_listed: matches!(&request.names, ArchiveNames::Listed(_)),
         progress,
-        line: Vec::new(rt.alloc()),
-        worst: Exit::Fine,
+        lines: RunLines::new(rt.alloc(), request.json),
     };
     match &request.names {
         ArchiveNames::Given(names) => {
@@ -155,26 +148,45 @@ fn archive_by<'r, 'a, R: Runtime + AllocGlobal, N: Names + Drop>(
     }
 }
 
+/// What pages are made by, with the digests of the inputs.
+fn digested<F: Read + Drop, S: Read + Drop>(
+    given: &GivenFiles<'_, F, S>,
+) -> Result<Maker, AllocError> {
+    let Digests { list, rules } = digests_of(given)?;
+    Ok(Maker {
+        program: PROGRAM,
+        words: given.pair.list().len(),
+        list,
+        rules,
+    })
+}
+
+/// What the pages of an archive are made by, if they are requested.
+fn maker_of<'a, F: Read + Drop, S: Read + Drop>(
+    request: &Archive<'_>,
+    given: &GivenFiles<'_, F, S>,
+) -> Result<Option<Maker>, Trouble<'a>> {
+    if request.pages.is_none() {
+        return Ok(None);
+    }
+    match digested(given) {
+        Ok(maker) => Ok(Some(maker)),
+        Err(_) => Err(Trouble::NoMemory),
+    }
+}
+
 /// The pages of an archive, if they are requested.
-fn pages_of<'a, R: Runtime + AllocGlobal, F: Read + Drop, S: Read + Drop>(
+fn pages_of<'a, R: Runtime + AllocGlobal>(
     rt: &R,
     request: &Archive<'a>,
-    given: &GivenFiles<'_, F, S>,
 ) -> Result<Option<Pages<'a>>, Trouble<'a>> {
     let Some(folder) = request.pages else {
         return Ok(None);
     };
-    let (Ok(digests), Ok(inputs)) = (digests_of(given), RunInputs::without_games(rt, request))
-    else {
+    let Ok(inputs) = RunInputs::without_games(rt, request) else {
         return Err(Trouble::NoMemory);
     };
-    let maker = Maker {
-        program: PROGRAM,
-        words: given.pair.list().len(),
-        list: digests.list,
-        rules: digests.rules,
-    };
-    Ok(Some(Pages::open(rt, folder, maker, inputs)?))
+    Ok(Some(Pages::open(rt, folder, inputs)?))
 }
 
 /// Judges the games of these names, one after the other.
@@ -184,13 +196,18 @@ fn go_through<'a, R: Runtime + AllocGlobal, F: Read + Drop, S: Read + Drop, N: N
     given: &GivenFiles<'_, F, S>,
     games: &mut Games<N>,
 ) -> Result<Exit, Trouble<'a>> {
-    let mut pages = pages_of(rt, request, given)?;
+    let maker = maker_of(request, given)?;
+    let asked = Asked {
+        likely: request.repairs,
+        page: maker.as_ref(),
+    };
+    let mut pages = pages_of(rt, request)?;
     let Games { run, names } = games;
     let mut name = Vec::new(rt.alloc());
     for _ in 0..u64::MAX {
         name.clear();
         match names.next_name(&mut name) {
-            Ok(true) => run.take_name(rt, given.rules, given.pair, &mut pages, &name)?,
+            Ok(true) => run.take_name(rt, given.rules, given.pair, &asked, &mut pages, &name)?,
             Ok(false) => break,
             Err(error) if error.kind() == io::ErrorKind::OutOfMemory => {
                 return Err(Trouble::NoMemory);
@@ -205,7 +222,7 @@ fn go_through<'a, R: Runtime + AllocGlobal, F: Read + Drop, S: Read + Drop, N: N
     if let Some(pages) = &mut pages {
         pages.end(rt)?;
     }
-    Ok(run.worst)
+    Ok(run.lines.worst)
 }
 
 /// The state of a run over the games of an archive.
@@ -213,16 +230,11 @@ fn go_through<'a, R: Runtime + AllocGlobal, F: Read + Drop, S: Read + Drop, N: N
 struct Run {
     /// The games that have a line already, and are passed over.
     done: Done,
-    json: bool,
-    /// Whether each line has the likely repair of its game.
-    repairs: bool,
     /// Whether the names of the games are in a list, and not on the command line.
     is_listed: bool,
     progress: Progress,
-    /// The line of the game that is being judged. The games share its memory.
-    line: Vec<u8>,
-    /// How the program ends, by the games that are done.
-    worst: Exit,
+    /// The line of the game that was judged last, and how the program ends by the lines that are written.
+    lines: RunLines,
 }
 
 impl Run {
@@ -232,13 +244,14 @@ impl Run {
         rt: &R,
         rules: &Rules,
         pair: &Checked<'_>,
+        asked: &Asked<'_>,
         pages: &mut Option<Pages<'_>>,
         name: &[u8],
     ) -> Result<(), Trouble<'a>> {
         if self.done.has(rt.alloc(), name)? {
             return Ok(());
         }
-        self.take_game(rt, rules, pair, pages, name)
+        self.take_game(rt, rules, pair, asked, pages, name)
     }
 
     /// Judges one game, and writes its line. A name that is not UTF-8 text is not the name of a file.
@@ -247,21 +260,22 @@ impl Run {
         rt: &R,
         rules: &Rules,
         pair: &Checked<'_>,
+        asked: &Asked<'_>,
         pages: &mut Option<Pages<'_>>,
         name: &[u8],
     ) -> Result<(), Trouble<'a>> {
         if let Ok(name) = str::from_utf8(name) {
-            let fields = match self.open_game(rt, name) {
-                Ok(game) => found(rt, rules, pair, pages, self.repairs, name, game),
-                Err(Trouble::NoMemory) => Fields::unread(name, Unread::NoMemory),
-                Err(_) => Fields::unread(name, Unread::CannotOpen),
+            let game = match self.open_game(rt, name) {
+                Ok(game) => found(rt, rules, pair, asked, name, game),
+                Err(Trouble::NoMemory) => unread_game(asked, name, Unread::NoMemory),
+                Err(_) => unread_game(asked, name, Unread::CannotOpen),
             };
-            return self.tell(rt, pages, fields);
+            return self.tell(rt, asked, pages, game);
         }
         match String::from_utf8_lossy(rt.alloc(), name) {
             Ok(shown) => {
-                let fields = Fields::unread(shown.as_str(), Unread::CannotOpen);
-                self.tell(rt, pages, fields)
+                let game = unread_game(asked, shown.as_str(), Unread::CannotOpen);
+                self.tell(rt, asked, pages, game)
             }
             Err(_) => Err(Trouble::NoMemory),
         }
@@ -276,114 +290,46 @@ impl Run {
         }
     }
 
-    /// Writes the line of a game, or that there was no memory for it, adds its row to the index if pages are made, and counts the
-    /// game.
+    /// Writes the page of a game and adds its row to the index if pages are made, writes its line, and counts the game.
     fn tell<'a, R: Runtime + AllocGlobal>(
         &mut self,
         rt: &R,
+        asked: &Asked<'_>,
         pages: &mut Option<Pages<'_>>,
-        fields: Fields<'_>,
+        game: ArchivedGame<'_>,
     ) -> Result<(), Trouble<'a>> {
-        let mut fields = fields;
+        let mut game = game;
         if let Some(pages) = pages {
-            pages.add(rt.alloc(), &mut fields);
+            pages.write(rt, &mut game);
+            pages.add(rt.alloc(), &mut game);
         }
-        if self.repairs && fields.likely.is_none() {
-            fields.likely = Some(LikelyFields::NONE);
+        if self.lines.add(rt.alloc(), asked, &game).is_err() {
+            return Err(Trouble::NoMemory);
         }
-        let mut exit = exit_of_line(&fields);
-        if self.make_line(rt.alloc(), &fields).is_err() {
-            let mut unread = Fields::unread(fields.name, Unread::NoMemory);
-            if fields.page.is_some() {
-                unread.page = Some(PageField::NoMemory);
-            }
-            if self.repairs {
-                unread.likely = Some(LikelyFields::NONE);
-            }
-            exit = exit_of_line(&unread);
-            if self.make_line(rt.alloc(), &unread).is_err() {
-                return Err(Trouble::NoMemory);
-            }
-        }
-        write(rt, self.line.as_slice())?;
-        self.worst = self.worst.worse(exit);
+        write(rt, self.lines.line.as_slice())?;
         self.progress.count(rt);
         Ok(())
     }
-
-    /// Makes the line of a game, in the requested form.
-    fn make_line(&mut self, alloc: Global, fields: &Fields<'_>) -> Result<(), AllocError> {
-        self.line.clear();
-        if self.json {
-            push_json_line(alloc, &mut self.line, fields)
-        } else {
-            push_tab_line(&mut self.line, fields)
-        }
-    }
 }
 
-/// What is found of the open game of this name, with its likely repair if repairs are requested. Writes its page if pages are made.
+/// What is told of the open game of this name.
 fn found<'n, R: Runtime + AllocGlobal, F: Read + Drop>(
     rt: &R,
     rules: &Rules,
     pair: &Checked<'_>,
-    pages: &mut Option<Pages<'_>>,
-    repairs: bool,
+    asked: &Asked<'_>,
     name: &'n str,
     game: F,
-) -> Fields<'n> {
-    if let Some(pages) = pages {
-        return pages.found(rt, rules, pair, repairs, name, game);
+) -> ArchivedGame<'n> {
+    let mut game = FromRead::new(game);
+    match tell_game(rt.alloc(), rules, pair, asked, name, &mut game) {
+        Ok(told) => told,
+        Err(fault) => unread_game(asked, name, unread_by(rt, name, fault)),
     }
-    let mut game = sheet_of(rt.alloc(), game);
-    let mut entry = match archive_entry(rt.alloc(), rules, pair, &mut game) {
-        Ok(Ok(entry)) => entry,
-        Ok(Err(fault)) => return Fields::bad_record(name, &fault),
-        Err(fault) => return Fields::unread(name, unread_by(rt, name, fault)),
-    };
-    let Some(text) = game.inner().front().whole() else {
-        return Fields::unread(name, Unread::NoMemory);
-    };
-    match fields_with(rt.alloc(), rules, pair, repairs, name, &mut entry, text) {
-        Ok(fields) => fields,
-        Err(_) => Fields::unread(name, Unread::NoMemory),
-    }
-}
-
-/// What the line of a game says by the text of its record, with its likely repair if repairs are requested.
-fn fields_with<'n>(
-    alloc: Global,
-    rules: &Rules,
-    pair: &Checked<'_>,
-    repairs: bool,
-    name: &'n str,
-    entry: &mut Entry,
-    text: &[u8],
-) -> Result<Fields<'n>, AllocError> {
-    let likely = likely_if(alloc, rules, pair, repairs, entry, text)?;
-    fields_of(alloc, repairs, name, entry, likely.as_ref(), text)
-}
-
-/// What the line of a game says by the text of its record, with the likely repair that was found if repairs are requested.
-pub fn fields_of<'n>(
-    alloc: Global,
-    repairs: bool,
-    name: &'n str,
-    entry: &Entry,
-    likely: Option<&Likely>,
-    text: &[u8],
-) -> Result<Fields<'n>, AllocError> {
-    let encoding = Encoding::of(text);
-    let unread = unread_lines(alloc, text)?.len();
-    let mut fields = Fields::of_entry(alloc, name, entry, encoding, unread)?;
-    if repairs {
-        fields.likely = Some(likely_fields(alloc, &entry.record, likely, encoding)?);
-    }
-    Ok(fields)
 }
 
 /// Why the game of this name is unread, if reading it failed.
-pub fn unread_by<R: Files>(rt: &R, name: &str, fault: RunFault) -> Unread {
+fn unread_by<R: Files>(rt: &R, name: &str, fault: RunFault) -> Unread {
     match fault {
         RunFault::NoMemory => Unread::NoMemory,
         RunFault::ReadFailed | RunFault::WriteFailed => {

@@ -4,12 +4,10 @@
 mod archiving;
 mod done;
 mod indexing;
-mod likely;
 mod names;
 mod pages;
 mod progress;
 mod read_lines;
-mod row_words;
 
 pub use archiving::archive;
 pub use indexing::index;

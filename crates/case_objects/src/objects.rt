@@ -9,7 +9,7 @@ use gcg_read::Record;
 use repair_answers::Likely;
 use repair_json::{RepairObject, single_object, whole_object};
 use std::alloc::{AllocError, Global};
-use unread_lines::unread_lines;
+use unread_lines::UnreadLine;
 
 /// The line that is explained, as it is in the file.
 fn written_of<'t>(bytes: &'t [u8], explanation: Option<&Explanation>) -> Option<&'t [u8]> {
@@ -32,10 +32,10 @@ fn push_entry(
     entry: &Entry,
     explanation: Option<&Explanation>,
     likely: Option<&Likely>,
+    unread: &[UnreadLine],
 ) -> Result<(), AllocError> {
-    let unread = unread_lines(alloc, case.text.as_slice())?;
     if entry.finding == Finding::NoGame {
-        return push_no_game(alloc, text, unread.as_slice());
+        return push_no_game(alloc, text, unread);
     }
     let written = written_of(case.text.as_slice(), explanation);
     let likely = likely_object(alloc, &entry.record, likely)?;
@@ -46,7 +46,7 @@ fn push_entry(
         written,
         explanation,
         likely,
-        unread.as_slice(),
+        unread,
     )
 }
 
@@ -63,7 +63,8 @@ fn likely_object(
     }
 }
 
-/// The object of a case with what explains it or one of its lines, and with the likely repair of its record, if that is given.
+/// The object of a case with what explains it or one of its lines, with the likely repair of its record, if that is given, and with its lines that are not
+/// read.
 ///
 /// # Errors
 ///
@@ -73,10 +74,11 @@ pub fn case_text(
     case: &Case,
     explanation: Option<&Explanation>,
     likely: Option<&Likely>,
+    unread: &[UnreadLine],
 ) -> Result<Vec<u8>, AllocError> {
     let mut text = Vec::new(alloc);
     match &case.read {
-        Ok(entry) => push_entry(alloc, &mut text, case, entry, explanation, likely)?,
+        Ok(entry) => push_entry(alloc, &mut text, case, entry, explanation, likely, unread)?,
         Err(fault) => push_bad_record(alloc, &mut text, *fault)?,
     }
     Ok(text)

@@ -171,11 +171,12 @@ macro_rules! behind {
 }
 
 /// The commands, in the order in which help shows them.
-const COMMANDS: [CommandRow; 18] = [
+const COMMANDS: [CommandRow; 19] = [
     JUDGE,
     ARCHIVE,
     INDEX,
     AUDIT,
+    FILL,
     EXPLAIN,
     REPAIR,
     COMPARE,
@@ -334,6 +335,46 @@ const AUDIT: CommandRow = CommandRow {
             against: Some("corrected"),
             ..JSON
         },
+        FIRST_FIELD_OPTION,
+        SKIP_OTHERS_OPTION,
+        RULES,
+    ],
+};
+
+/// `fill [--first-field] [--skip-others] [--json] [--rules FILE] [--next] WORDS LEXICON DRAFT [OUT]`.
+const FILL: CommandRow = CommandRow {
+    name: "fill",
+    about: "Puts the scores and totals that are missing into a draft of a record, and writes the record",
+    behind: behind!(
+        "referee fill words.txt words.gad draft.gcg game.gcg",
+        "Exit status:",
+        "0   no number is wrong, and the game is legal",
+        "1   a number that is written is wrong, or the game is illegal; with --next, a line is illegal",
+        "2   unsettled: every event stands, but no deal was found",
+        "3   the rules text, the word list, the lexicon or the draft is bad; then OUT is not touched"
+    ),
+    arguments: &[
+        WORDS,
+        LEXICON,
+        argument!(
+            Form::Needed,
+            "DRAFT",
+            "a GCG record whose event lines may lack the total, or the score and the total; - is standard input"
+        ),
+        Argument {
+            against: Some("next"),
+            ..argument!(
+                Form::Last,
+                "OUT",
+                "the record to be written, if no line is refused; without it, or as -, standard output"
+            )
+        },
+        flag!(
+            "next",
+            "say what the next line is about: whose turn it is, the totals, the tiles on the racks and in the bag",
+            None
+        ),
+        JSON,
         FIRST_FIELD_OPTION,
         SKIP_OTHERS_OPTION,
         RULES,

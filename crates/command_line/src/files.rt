@@ -36,7 +36,7 @@ pub struct GameFiles<'a> {
     pub rules: Option<&'a str>,
     /// The word list and its lexicon.
     pub pair: PairFiles<'a>,
-    /// The record.
+    /// The record, or the draft of one.
     pub game: &'a str,
 }
 
@@ -57,11 +57,14 @@ pub fn pair_files<'a>(names: &ArgMatches<'a>) -> Option<PairFiles<'a>> {
     })
 }
 
-/// The files of a game that a command names, or of the first of two sheets of it.
+/// The files of a game that a command names, or of the first of two sheets of it, or of a draft.
 pub fn game_files<'a>(names: &ArgMatches<'a>) -> Option<GameFiles<'a>> {
     Some(GameFiles {
         rules: names.get_str("rules"),
         pair: pair_files(names)?,
-        game: names.get_str("GAME").or(names.get_str("SHEET1"))?,
+        game: names
+            .get_str("GAME")
+            .or(names.get_str("SHEET1"))
+            .or(names.get_str("DRAFT"))?,
     })
 }

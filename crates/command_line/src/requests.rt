@@ -106,7 +106,7 @@ fn reads_twice(matches: &ArgMatches<'_>) -> bool {
     // `serve` reads its requests from standard input.
     let requests: usize = if command == "serve" { 1 } else { 0 };
     let times = [
-        "WORDS", "GAME", "SHEET1", "SHEET2", "names", "skip", "LINES",
+        "WORDS", "GAME", "SHEET1", "SHEET2", "DRAFT", "names", "skip", "LINES",
     ]
     .iter()
     .map(|id| times_read(names, id))

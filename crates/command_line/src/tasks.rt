@@ -43,14 +43,19 @@ pub enum SheetTask<'a> {
     Audit(Option<&'a str>),
     /// To tell something of its case.
     Case(CaseTask<'a>),
+    /// To fill it as a draft, and to write the record that this makes to a file if one is named.
+    Fill(Option<&'a str>),
+    /// To say what the next line of it is about, as of a draft.
+    Next,
 }
 
 impl<'a> SheetTask<'a> {
     /// The output that is written in addition to the report, if there is one.
     pub fn out(self) -> Option<&'a str> {
         match self {
-            SheetTask::Audit(out) => out,
+            SheetTask::Audit(out) | SheetTask::Fill(out) => out,
             SheetTask::Case(task) => task.out(),
+            SheetTask::Next => None,
         }
     }
 }
@@ -93,10 +98,22 @@ pub fn game_request_of<'a>(command: &str, names: &ArgMatches<'a>) -> Option<Game
             before: names.get_one::<u32>("before"),
         })),
         "audit" => Some(GameRequest::Sheet(SheetTask::Audit(names.get_str("corrected")))),
+        "fill" => Some(GameRequest::Sheet(draft_task_of(names))),
         _ => match case_task_of(command, names) {
             Some(task) => Some(GameRequest::Sheet(SheetTask::Case(task))),
             None => None,
         },
+    }
+}
+
+/// What the matches of `fill` ask for. Without OUT the record goes to standard output, unless an object goes there.
+fn draft_task_of<'a>(names: &ArgMatches<'a>) -> SheetTask<'a> {
+    if names.get_flag("next") {
+        return SheetTask::Next;
+    }
+    match names.get_str("OUT") {
+        None if !names.get_flag("json") => SheetTask::Fill(Some(STANDARD_OUTPUT_NAME)),
+        out => SheetTask::Fill(out),
     }
 }
 

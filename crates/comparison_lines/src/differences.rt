@@ -78,6 +78,30 @@ fn push_with(
     )
 }
 
+/// Appends that the line of a sheet is taken, and that none was varied.
+fn push_not_varied(text: &mut Vec<u8>, side: Side) -> Result<(), AllocError> {
+    say(
+        text,
+        &[
+            Part::Say(": not varied, "),
+            Part::Say(name_of(side)),
+            Part::Say(" is taken"),
+        ],
+    )
+}
+
+/// Appends that the line of the sheet that is not taken leaves more wrong.
+fn push_left_wrong(text: &mut Vec<u8>, sheet: &'static str) -> Result<(), AllocError> {
+    say(
+        text,
+        &[
+            Part::Say("; "),
+            Part::Say(sheet),
+            Part::Say(" leaves more wrong"),
+        ],
+    )
+}
+
 /// Appends which line of an item is taken, and what comes of the other one.
 fn push_taken(
     alloc: Global,
@@ -88,14 +112,7 @@ fn push_taken(
 ) -> Result<(), AllocError> {
     let sheet = other_name(side);
     match other {
-        OtherLine::NotVaried => say(
-            text,
-            &[
-                Part::Say(": not varied, "),
-                Part::Say(name_of(side)),
-                Part::Say(" is taken"),
-            ],
-        ),
+        OtherLine::NotVaried => push_not_varied(text, side),
         OtherLine::AsGood => say(text, &[Part::Say(": both stand")]),
         OtherLine::Refused { at, why } => {
             push_name(text, side)?;
@@ -114,16 +131,10 @@ fn push_taken(
             push_name(text, side)?;
             push_other_score(text, sheet, written, right)
         }
-        OtherLine::MoreWrong => say(
-            text,
-            &[
-                Part::Say(": "),
-                Part::Say(name_of(side)),
-                Part::Say("; "),
-                Part::Say(sheet),
-                Part::Say(" leaves more wrong"),
-            ],
-        ),
+        OtherLine::MoreWrong => {
+            push_name(text, side)?;
+            push_left_wrong(text, sheet)
+        }
     }
 }
 

@@ -1,5 +1,5 @@
 -- Verdicts on records with what is answered for their events, as `judge` answers them.
-use Rattle.std.proofs.Common.{◌≡◌, ℕ, List, [], length, Option, Some, None, refl, sym, ap, ◌∙◌, subst}
+use Rattle.std.proofs.Common.{◌≡◌, inl, inr, ℕ, Bool, true, false, List, [], length, Option, Some, None, refl, sym, ap, ◌∙◌, subst}
 use Rattle.ref_tiles.specs.declared.rulebook.Rules.{Rules}
 use Rattle.gcg_read.specs.declared.events.Event.{Event}
 use Rattle.gcg_read.specs.declared.records.Record.{Record}
@@ -19,6 +19,7 @@ use Rattle.engine.specs.declared.judging.Judging.TheVariants as judging
 use Rattle.game_deal.specs.declared.racks.RackFinding.TheVariants as rack
 use Rattle.game_deal.specs.declared.racks.RackTrial.TheVariants as trial
 use Rattle.engine.specs.Judging.{IsToldBound, IsToldLegal}
+use Rattle.engine.specs.Settling.{IsJudgedBy}
 use Rattle.game_deal.specs.Racks.{AreTried, AreFound}
 use Rattle.game_turns.proofs.PlaceLaws.{first_not_allowed}
 use Rattle.engine.proofs.Settled as settled
@@ -27,7 +28,7 @@ use Rattle.game_answers.specs.declared.answers.EventAnswer.{EventAnswer}
 use Rattle.game_answers.specs.declared.leaving.GameAnswers.{GameAnswers}
 use Rattle.game_answers.specs.Answers.{AreAnswersTo}
 use Rattle.game_answers.specs.Bounds.{bound_verdict, legal_verdict, refused_verdict}
-use Rattle.game_answers.specs.Games.{IsVerdictOn, IsJudged}
+use Rattle.game_answers.specs.Games.{IsVerdictOn, IsVerdict, AreAnswered, IsJudged, report_of}
 use Rattle.game_answers.specs.Leaving.{AreLeft}
 use Rattle.game_answers.specs.Reports.{lines_to, report_by}
 use Rattle.game_answers.proofs.Lines.{lines_of_answers}
@@ -89,32 +90,52 @@ search_open passed words allowed left =
 
 -- ---- with the answers of the events
 
-with_answers : (question : Judging) (rules : Rules) (words : List (List ℕ)) (r : Record) (v : Verdict) (a : GameAnswers) → AreAllowed rules words r.events → IsVerdictOn question rules words r v
-    → AreAnswersTo rules words r.events (length r.events) a.events.items → AreLeft r.events a → IsJudged question rules words r v (Some a)
-with_answers question rules words r v a allowed on are left =
+verdict_allowed : (question : Judging) (rules : Rules) (words : List (List ℕ)) (r : Record) (v : Verdict) → AreAllowed rules words r.events → IsVerdictOn question rules words r v
+    → IsVerdict question rules words r v
+verdict_allowed question rules words r v allowed on = inl (allowed, on)
+
+-- the report of a verdict with answers, if they are asked for
+report_with : (question : Judging) (rules : Rules) (words : List (List ℕ)) (r : Record) (v : Verdict) (a : Option GameAnswers) → AreAllowed rules words r.events
+    → IsVerdictOn question rules words r v → AreAnswered true rules words r.events a → IsJudgedBy question rules words r v (report_of r.players r.events v a)
+report_with question rules words r v None allowed on none = absurd (none allowed)
+report_with question rules words r v (Some a) allowed on are =
+    on.judged (lines_to r.players r.events a.events.items (length r.events)) (lines_of_answers rules words r (length r.events) a.events.items are.1)
+
+-- the verdict on a record in which the rules allow every event
+pub judged_with : (best : Bool) (question : Judging) (rules : Rules) (words : List (List ℕ)) (r : Record) (v : Verdict) (a : Option GameAnswers) → AreAllowed rules words r.events
+    → IsVerdictOn question rules words r v → AreAnswered best rules words r.events a → IsJudged best question rules words r v a
+judged_with best question rules words r v a allowed on are =
     record {
-      judged = on.judged (lines_to r.players r.events a.events.items (length r.events)) (lines_of_answers rules words r (length r.events) a.events.items are);
-      answered = (allowed, are, left);
+      verdict = verdict_allowed question rules words r v allowed on;
+      answered = are;
+      judged = λ asked. report_with question rules words r v a allowed on (subst (λ (b : Bool). AreAnswered b rules words r.events a) asked are);
     }
 
-pub judged_with : (question : Judging) (rules : Rules) (words : List (List ℕ)) (game r : Record) (shown : List Event) (v : Verdict) (answers : List EventAnswer) (a : GameAnswers)
-    → AreAllowed rules words r.events → IsVerdictOn question rules words r v → AreAnswersTo rules words r.events (length r.events) answers → game ≡ r → shown ≡ game.events
-    → a.events.items ≡ answers → AreLeft shown a → IsJudged question rules words r v (Some a)
-judged_with question rules words game r shown v answers a allowed on are same shows kept left =
-    let all : shown ≡ r.events = shows ∙ ap (λ (g : Record). g.events) same in
-    with_answers question rules words r v a allowed on (subst (λ (xs : List EventAnswer). AreAnswersTo rules words r.events (length r.events) xs) (sym kept) are)
-    (subst (λ (es : List Event). AreLeft es a) all left)
+-- the answers that are asked for; `game` is the record as it was lent, and `shown` its events
+pub answered_all : (rules : Rules) (words : List (List ℕ)) (game r : Record) (shown : List Event) (answers : List EventAnswer) (a : GameAnswers) → AreAllowed rules words r.events
+    → AreAnswersTo rules words r.events (length r.events) answers → game ≡ r → shown ≡ game.events → a.events.items ≡ answers → AreLeft shown a
+    → AreAnswered true rules words r.events (Some a)
+answered_all rules words game r shown answers a allowed are same shows kept left =
+    let all : shown ≡ r.events = shows ∙ ap (λ (g : Record). g.events) same in (
+      allowed,
+      subst (λ (xs : List EventAnswer). AreAnswersTo rules words r.events (length r.events) xs) (sym kept) are,
+      subst (λ (es : List Event). AreLeft es a) all left,
+    )
 
-refused_with : (question : Judging) (rules : Rules) (words : List (List ℕ)) (r : Record) (line : ℕ) (why : RuleFault) → IsFirstRefusal rules words r.events line why
-    → IsJudged question rules words r (refused_verdict line why) None
-refused_with question rules words r line why first =
-    record {
-      judged = settled.judged_refused question rules words r line why (refused_verdict line why) (report_by (refused_verdict line why) []) first (record { verdict_is = refl; told = refl });
-      answered = first_not_allowed rules words r.events line why first;
-    }
+none_answered : (best : Bool) (rules : Rules) (words : List (List ℕ)) (events : List Event) → (AreAllowed rules words events → ⊥) → AreAnswered best rules words events None
+none_answered true rules words events refused = refused
+none_answered false rules words events refused = refl
 
-pub judged_refused : (question : Judging) (rules : Rules) (words : List (List ℕ)) (r : Record) (line : ℕ) (why : RuleFault) (v : Verdict) (a : Option GameAnswers)
-    → IsFirstRefusal rules words r.events line why → v ≡ refused_verdict line why → a ≡ None → IsJudged question rules words r v a
-judged_refused question rules words r line why v a first is none =
-    subst (λ (x : Verdict). IsJudged question rules words r x a) (sym is)
-    (subst (λ (o : Option GameAnswers). IsJudged question rules words r (refused_verdict line why) o) (sym none) (refused_with question rules words r line why first))
+refused_with : (best : Bool) (question : Judging) (rules : Rules) (words : List (List ℕ)) (r : Record) (line : ℕ) (why : RuleFault) → IsFirstRefusal rules words r.events line why
+    → IsJudged best question rules words r (refused_verdict line why) None
+refused_with best question rules words r line why first =
+    let by = settled.judged_refused question rules words r line why (refused_verdict line why) (report_by (refused_verdict line why) []) first (record { verdict_is = refl; told = refl }) in
+    let never = first_not_allowed rules words r.events line why first in
+    record { verdict = inr (never, by); answered = none_answered best rules words r.events never; judged = λ asked. by }
+
+-- the verdict on a record in which the rules refuse an event
+pub judged_refused : (best : Bool) (question : Judging) (rules : Rules) (words : List (List ℕ)) (r : Record) (line : ℕ) (why : RuleFault) (v : Verdict) (a : Option GameAnswers)
+    → IsFirstRefusal rules words r.events line why → v ≡ refused_verdict line why → a ≡ None → IsJudged best question rules words r v a
+judged_refused best question rules words r line why v a first is none =
+    subst (λ (x : Verdict). IsJudged best question rules words r x a) (sym is)
+    (subst (λ (o : Option GameAnswers). IsJudged best question rules words r (refused_verdict line why) o) (sym none) (refused_with best question rules words r line why first))

@@ -4,7 +4,6 @@ pub mod Reports
 pub mod Bounds
 pub mod Leaving
 pub mod Games
-pub mod Counting
 pub mod Plays
 pub mod Tops
 pub mod BoardTexts

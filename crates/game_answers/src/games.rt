@@ -1,5 +1,5 @@
 //! The judged game of a record, by the bytes of its input.
-ghost use Rattle.std.specs.Prelude.{IfOk};
+ghost use Rattle.std.specs.Prelude.{IfOk, true};
 ghost use Rattle.devices.specs.Devices.{HasRoom};
 ghost use Rattle.gcg_read.specs.Records.{most_bytes};
 ghost use Rattle.lex_check.specs.Pairs.{list_in};
@@ -27,7 +27,7 @@ pub struct JudgedGame {
     pub events: Events,
     /// Whether the game is legal, and what is wrong with it.
     pub verdict: Verdict,
-    /// What is answered for the events, if the rules allow every one.
+    /// What is answered for the events, if that is asked for and the rules allow every one.
     pub answers: Option<GameAnswers>,
 }
 
@@ -38,13 +38,14 @@ fn judged_game(
     pair: &Checked<'_>,
     game: Record,
     question: Judging,
+    best: bool,
     known: &mut KnownBests,
 ) -> Result<JudgedGame, AllocError>
     requires { AreKnown rules.now (list_in pair.now) known.old }
     ensures known { AreKnown rules.now (list_in pair.now) known.new }
-    ensures judged { IfOk result (IsJudgedGame question rules.now (list_in pair.now) game) }
+    ensures judged { IfOk result (IsJudgedGame best question rules.now (list_in pair.now) game) }
 {
-    let found = judge_record(alloc, rules, pair, &game, question, known)?;
+    let found = judge_record(alloc, rules, pair, &game, question, best, known)?;
     Ok(JudgedGame {
         players: game.players,
         events: game.events,
@@ -60,22 +61,24 @@ fn judged_from(
     pair: &Checked<'_>,
     text: &[u8],
     question: Judging,
+    best: bool,
     known: &mut KnownBests,
 ) -> Result<Result<JudgedGame, Decision>, AllocError>
     requires { AreKnown rules.now (list_in pair.now) known.old }
     ensures known { AreKnown rules.now (list_in pair.now) known.new }
-    ensures judged { IfOk result (IsJudgedGameOf question rules.now (list_in pair.now) text.now) }
+    ensures judged { IfOk result (IsJudgedGameOf best question rules.now (list_in pair.now) text.now) }
 {
     let written = match record_from(alloc, text)? {
         Ok(record) => record,
         Err(decision) => return Ok(Err(decision)),
     };
-    let judged = judged_game(alloc, rules, pair, written, question, known)?;
+    let judged = judged_game(alloc, rules, pair, written, question, best, known)?;
     Ok(Ok(judged))
 }
 
-/// Reads the record of a game and judges it, as [`judge_game`] does. Best plays that are known are not searched for, and those that are found are
-/// known from then on; what is found of the game does not depend on them.
+/// Reads the record of a game and judges it, as [`judge_game`] does. Only if `best` is true are there answers on the events, and are best plays looked
+/// for; the verdict is the same. Best plays that are known are not searched for, and those that are found are known from then on; what is found of the
+/// game does not depend on them.
 ///
 /// The input is read to its end, or to one byte past 1 MiB and no further.
 ///
@@ -88,15 +91,16 @@ pub fn judge_game_with<G: Input>(
     pair: &Checked<'_>,
     game: &mut G,
     question: Judging,
+    best: bool,
     known: &mut KnownBests,
 ) -> Result<Result<JudgedGame, Decision>, RunFault>
     requires room { HasRoom (G.device game.old) }
     requires known { AreKnown rules.now (list_in pair.now) known.old }
-    ensures read { IsRead most_bytes (G.device game.old) (G.device game.new) (IsJudgedGameOf question rules.now (list_in pair.now)) result }
+    ensures read { IsRead most_bytes (G.device game.old) (G.device game.new) (IsJudgedGameOf best question rules.now (list_in pair.now)) result }
     ensures known { AreKnown rules.now (list_in pair.now) known.new }
 {
     let text = read_text(alloc, game, MAX_BYTES)?;
-    Ok(judged_from(alloc, rules, pair, &text, question, known)?)
+    Ok(judged_from(alloc, rules, pair, &text, question, best, known)?)
 }
 
 /// Reads the record of a game and judges it, only by the deal of the rule of completion or by a search: what [`run`](engine::run) or
@@ -115,8 +119,8 @@ pub fn judge_game<G: Input>(
     question: Judging,
 ) -> Result<Result<JudgedGame, Decision>, RunFault>
     requires { HasRoom (G.device game.old) }
-    ensures { IsRead most_bytes (G.device game.old) (G.device game.new) (IsJudgedGameOf question rules.now (list_in pair.now)) result }
+    ensures { IsRead most_bytes (G.device game.old) (G.device game.new) (IsJudgedGameOf true question rules.now (list_in pair.now)) result }
 {
     let mut known = KnownBests::none(alloc);
-    judge_game_with(alloc, rules, pair, game, question, &mut known)
+    judge_game_with(alloc, rules, pair, game, question, true, &mut known)
 }

@@ -4,7 +4,7 @@ ghost use Rattle.game_turns.specs.{Passing.{rules_in, record_in}, Places.{AreAll
 ghost use Rattle.lex_check.specs.Pairs.{list_in};
 ghost use Rattle.known_bests.specs.Known.{AreKnown};
 ghost use Rattle.game_answers.specs.Bounds.{refused_verdict};
-ghost use Rattle.game_answers.specs.Games.{IsJudged};
+ghost use Rattle.game_answers.specs.Games.{AreAnswered, IsJudged};
 
 use crate::answers::answers_with;
 use crate::leaving::{GameAnswers, with_left};
@@ -39,29 +39,48 @@ fn refused(line: u32, fault: RuleFault) -> Judged
     }
 }
 
-/// The verdict on a record that passed, and what is answered for each event.
+/// What is answered for each event of a record that passed, if that is asked for.
+#[tactic(auto, using(crate::proofs::VerdictLaws::answered_all))]
+fn answers_asked(
+    alloc: Global,
+    passed: &Passed<'_>,
+    pair: &Checked<'_>,
+    best: bool,
+    known: &mut KnownBests,
+) -> Result<Option<GameAnswers>, AllocError>
+    requires allowed { AreAllowed (rules_in passed.now) (list_in pair.now) (record_in passed.now).events }
+    requires known { AreKnown (rules_in passed.now) (list_in pair.now) known.old }
+    ensures known { AreKnown (rules_in passed.now) (list_in pair.now) known.new }
+    ensures answered { IfOk result (AreAnswered best (rules_in passed.now) (list_in pair.now) (record_in passed.now).events) }
+{
+    if !best {
+        return Ok(None);
+    }
+    let answers = answers_with(alloc, passed, pair, known)?;
+    Ok(Some(with_left(passed.record().events.as_slice(), answers)))
+}
+
+/// The verdict on a record that passed, and what is answered for its events.
 #[tactic(auto, using(crate::proofs::VerdictLaws::judged_with))]
 fn judged_passed(
     alloc: Global,
     passed: &Passed<'_>,
     pair: &Checked<'_>,
     question: Judging,
+    best: bool,
     known: &mut KnownBests,
 ) -> Result<Judged, AllocError>
     requires allowed { AreAllowed (rules_in passed.now) (list_in pair.now) (record_in passed.now).events }
     requires known { AreKnown (rules_in passed.now) (list_in pair.now) known.old }
     ensures known { AreKnown (rules_in passed.now) (list_in pair.now) known.new }
-    ensures judged { IfOk result (λ j. IsJudged question (rules_in passed.now) (list_in pair.now) (record_in passed.now) j.verdict j.answers) }
+    ensures judged { IfOk result (λ j. IsJudged best question (rules_in passed.now) (list_in pair.now) (record_in passed.now) j.verdict j.answers) }
 {
     let verdict = verdict_on(alloc, passed, pair, question)?;
-    let answers = answers_with(alloc, passed, pair, known)?;
-    Ok(Judged {
-        verdict,
-        answers: Some(with_left(passed.record().events.as_slice(), answers)),
-    })
+    let answers = answers_asked(alloc, passed, pair, best, known)?;
+    Ok(Judged { verdict, answers })
 }
 
-/// The verdict on a record, and what is answered for each event if the rules allow every one.
+/// The verdict on a record, and if that is asked for and the rules allow every event, what is answered for each.
 #[tactic(auto, using(crate::proofs::VerdictLaws::judged_refused))]
 pub(crate) fn judge_record(
     alloc: Global,
@@ -69,14 +88,15 @@ pub(crate) fn judge_record(
     pair: &Checked<'_>,
     game: &Record,
     question: Judging,
+    best: bool,
     known: &mut KnownBests,
 ) -> Result<Judged, AllocError>
     requires { AreKnown rules.now (list_in pair.now) known.old }
     ensures known { AreKnown rules.now (list_in pair.now) known.new }
-    ensures judged { IfOk result (λ j. IsJudged question rules.now (list_in pair.now) game.now j.verdict j.answers) }
+    ensures judged { IfOk result (λ j. IsJudged best question rules.now (list_in pair.now) game.now j.verdict j.answers) }
 {
     match play_through(rules, game, pair.list()) {
-        Ok(passed) => judged_passed(alloc, &passed, pair, question, known),
+        Ok(passed) => judged_passed(alloc, &passed, pair, question, best, known),
         Err((line, fault)) => Ok(refused(line, fault)),
     }
 }

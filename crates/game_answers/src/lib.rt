@@ -10,7 +10,6 @@ mod answers;
 mod besides;
 mod boards;
 mod copies;
-mod counting;
 mod games;
 mod judging;
 mod leaving;
@@ -21,7 +20,6 @@ mod verdicts;
 
 pub use answers::{EventAnswer, answers_of, answers_with};
 pub use boards::{RowMarks, ShownBoard, shown_board};
-pub use counting::count_words;
 pub use games::{JudgedGame, judge_game, judge_game_with};
 pub use leaving::GameAnswers;
 pub use letters::word_of;

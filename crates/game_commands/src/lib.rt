@@ -3,8 +3,6 @@
 
 mod games;
 mod lexicons;
-mod rulings;
 
 pub use games::{board, judge, tidy, top};
 pub use lexicons::{build, check, convert};
-pub use rulings::word;

@@ -1,4 +1,7 @@
 //! How many games had each answer.
+ghost use Rattle.std.specs.Prelude.{◌≡◌, ◌<◌, ◌+◌, ◌-◌, ◌++◌, ◌∷◌, ◌^◌, [], List};
+ghost use Rattle.archive_lines.specs.declared.answers.Answer.{Answer};
+ghost use Rattle.game_page.specs.Counts.{count_of, one_more, AreCountsOf};
 
 use archive_lines::Answer;
 
@@ -20,7 +23,9 @@ pub struct AnswerCounts {
 }
 
 /// No game had any answer.
-pub(crate) fn no_counts() -> AnswerCounts {
+pub(crate) fn no_counts() -> AnswerCounts
+    ensures { AreCountsOf [] result }
+{
     AnswerCounts {
         legal: 0,
         illegal: 0,
@@ -32,7 +37,9 @@ pub(crate) fn no_counts() -> AnswerCounts {
 }
 
 /// How many games had an answer.
-pub(crate) fn count_of(counts: &AnswerCounts, answer: Answer) -> usize {
+pub(crate) fn count_of(counts: &AnswerCounts, answer: Answer) -> usize
+    ensures { result ≡ count_of counts.now answer }
+{
     match answer {
         Answer::Legal => counts.legal,
         Answer::Illegal => counts.illegal,
@@ -44,12 +51,16 @@ pub(crate) fn count_of(counts: &AnswerCounts, answer: Answer) -> usize {
 }
 
 /// The number after this one; the greatest stays.
-fn next(many: usize) -> usize {
+fn next(many: usize) -> usize
+    ensures { many < 2 ^ 64 - 1 → result ≡ many + 1 }
+{
     many.saturating_add(1)
 }
 
 /// The counts with one answer more, as long as fewer than 2^64 - 1 games had it.
-pub(crate) fn count_more(counts: &AnswerCounts, answer: Answer) -> AnswerCounts {
+fn one_more(counts: &AnswerCounts, answer: Answer) -> AnswerCounts
+    ensures { count_of counts.now answer < 2 ^ 64 - 1 → result ≡ one_more counts.now answer }
+{
     let mut more = *counts;
     match answer {
         Answer::Legal => more.legal = next(more.legal),
@@ -60,4 +71,12 @@ pub(crate) fn count_more(counts: &AnswerCounts, answer: Answer) -> AnswerCounts 
         Answer::Unread => more.unread = next(more.unread),
     }
     more
+}
+
+/// Counts one answer more, as long as fewer than 2^64 - 1 games had it.
+pub(crate) fn count_more(counts: &AnswerCounts, answer: Answer) -> AnswerCounts
+    ensures { (answers : List Answer) → AreCountsOf answers counts.now → count_of counts.now answer < 2 ^ 64 - 1
+        → AreCountsOf (answers ++ answer ∷ []) result }
+{
+    one_more(counts, answer)
 }

@@ -1,4 +1,7 @@
 //! The index of the pages of many games.
+ghost use Rattle.std.specs.Prelude.{◌≡◌, ◌<◌, ◌-◌, ◌^◌, ◌++◌, ◌∷◌, [], List, OnOk};
+ghost use Rattle.archive_lines.specs.declared.answers.Answer.{Answer};
+ghost use Rattle.game_page.specs.Counts.{AreCountsOf, count_of};
 
 use crate::counts::{AnswerCounts, count_more, count_of, no_counts};
 use crate::faults::fault_words;
@@ -82,7 +85,9 @@ pub struct Index {
 
 impl Index {
     /// An index without games.
-    pub fn new(alloc: Global) -> Index {
+    pub fn new(alloc: Global) -> Index
+        ensures { AreCountsOf [] result.counts }
+    {
         Index {
             rows: BTreeMap::new(alloc),
             counts: no_counts(),
@@ -90,7 +95,10 @@ impl Index {
     }
 
     /// Adds the row of a game. If memory runs out, the index stays as it was.
-    pub fn add(&mut self, alloc: Global, row: &IndexRow<'_>) -> Result<(), AllocError> {
+    pub fn add(&mut self, alloc: Global, row: &IndexRow<'_>) -> Result<(), AllocError>
+        ensures { OnOk result ((answers : List Answer) → AreCountsOf answers self.old.counts → count_of self.old.counts row.now.answer < 2 ^ 64 - 1
+            → AreCountsOf (answers ++ row.now.answer ∷ []) self.new.counts) }
+    {
         let mut text = PageText::new(alloc);
         push_row(alloc, &mut text, row)?;
         let key = order_key(alloc, row.game, self.rows.len())?;

@@ -35,6 +35,7 @@ fn lost_of_game<R: Runtime>(
     };
     let (first, second) = match request {
         GameRequest::Sheet(SheetTask::Case(CaseTask::Compare(second, _))) => ("SHEET1", second),
+        GameRequest::Sheet(SheetTask::Fill(_)) => ("DRAFT", ""),
         _ => ("GAME", ""),
     };
     let inputs = [

@@ -1,6 +1,6 @@
 //! What the program does: it parses the command line as a request, carries it out, and says what kept it from finishing.
 
-use answer_commands::{answer_game, board_in_json, check_in_json};
+use answer_commands::{answer_game, board_in_json, check_in_json, rule_on_words};
 use archive_commands::{archive, index};
 use call_stages::Verdict;
 use clap::Error;
@@ -10,7 +10,7 @@ use command_line::{
     GameFiles, GameRequest, PROGRAM_NAME, PairFiles, Request, mistake, parse_arguments,
 };
 use exit_statuses::{Exit, Trouble};
-use game_commands::{board, build, check, convert, judge, tidy, top, word};
+use game_commands::{board, build, check, convert, judge, tidy, top};
 use lost_inputs::{input_under_pages, lost_input};
 use ref_tiles::ENGLISH_TEXT;
 use serve_commands::serve;
@@ -129,7 +129,7 @@ fn carry_out<'a, R: Runtime + AllocGlobal>(
             json,
         } => show_board(rt, rules, before, game, json),
         Request::Serve { rules, pair } => serve(rt, rules, pair),
-        Request::Word { pair, each, words } => word(rt, pair, &words, each),
+        Request::Word { pair, each, words } => rule_on_words(rt, pair, words, each),
         Request::Rules => print_rules(rt),
     }
 }

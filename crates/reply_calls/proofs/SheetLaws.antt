@@ -1,5 +1,5 @@
 -- What is found of sheets that are read.
-use Rattle.std.proofs.Common.{◌≡◌, ℕ, Bool, List, [], ◌∷◌, Result, Ok, Err, refl, subst}
+use Rattle.std.proofs.Common.{◌≡◌, ℕ, Bool, List, [], ◌∷◌, Option, Result, Ok, Err, refl, sym, subst}
 use Rattle.ref_tiles.specs.declared.rulebook.Rules.{Rules}
 use Rattle.gcg_read.specs.Records.{most_bytes}
 use Rattle.devices.specs.Devices.{Device}
@@ -12,13 +12,29 @@ use Rattle.call_stages.specs.Runs.{Gives, outcomes}
 use Rattle.call_stages.specs.Sources.{game_source}
 use Rattle.call_stages.specs.Stages.{IsRead}
 use Rattle.call_stages.proofs.Giving.{gives_failed, gives_stopped, gives_last, gives_good}
+use Rattle.serve_requests.specs.declared.requests.Request.{Request}
 use Rattle.serve_requests.specs.declared.tasks.Task.{Task}
 use Rattle.serve_answers.specs.declared.replies.Reply.{Reply}
-use Rattle.reply_calls.specs.Found.{IsReplyOn, IsReplyOnBoth, IsFoundOn, IsFoundOnSecond, IsFoundOnBoth}
+use Rattle.reply_calls.specs.Found.{IsReplyBy, IsReplyOn, IsReplyOnBoth, IsBoardOn, IsBoardFound, IsFoundAlone, IsFoundOn, IsFoundOnSecond, IsFoundOnBoth}
 
 -- what a sheet gives: its bytes
 abbrev AreItems : {B : Type 0} → (items : B → List ℕ) → List ℕ → B → Type 0
 AreItems items text bytes = items bytes ≡ text
+
+-- no sheet
+pub alone : (asked : Request) (rules : Rules) (list : List (List ℕ)) (reply : Reply) → IsReplyBy rules list asked reply → Gives outcomes [] (IsFoundAlone asked rules list) (Ok (Ok reply))
+alone asked rules list reply is =
+    record {
+      answered = record { texts = []; given = tt; answer = (is, record { verdict_is = refl; told = refl }) };
+      worked = tt;
+      gave_up = tt;
+      within = tt;
+      ended = tt;
+    }
+
+pub no_reply_alone : (asked : Request) (rules : Rules) (list : List (List ℕ)) (fault : RunFault) → fault ≡ run.NoMemory → Gives outcomes [] (IsFoundAlone asked rules list) (Err fault)
+no_reply_alone asked rules list fault refused =
+    subst (λ f. Gives outcomes [] (IsFoundAlone asked rules list) (Err f)) (sym refused) (record { answered = tt; worked = tt; gave_up = tt; within = tt; ended = tt })
 
 -- one sheet
 pub on_sheet : {B : Type 0} (items : B → List ℕ) (old new : Device) (asked : Task) (rules : Rules) (list : List (List ℕ)) (bytes : B) (reply : Reply)
@@ -38,6 +54,25 @@ pub no_sheet : {B : Type 0} (items : B → List ℕ) (old new : Device) (asked :
     → IsRead most_bytes old new (AreItems items) (Err fault) → Gives outcomes (game_source old new ∷ []) (IsFoundOn asked rules list) (Err fault)
 no_sheet items old new asked rules list fault read =
     gives_failed outcomes (game_source old new) [] (AreItems items) (IsFoundOn asked rules list) fault read tt
+
+-- its board
+pub on_board : {B : Type 0} (items : B → List ℕ) (old new : Device) (line : Option ℕ) (rules : Rules) (bytes : B) (reply : Reply)
+    → IsRead most_bytes old new (AreItems items) (Ok bytes) → IsBoardOn rules line (items bytes) reply
+    → Gives outcomes (game_source old new ∷ []) (IsBoardFound line rules) (Ok (Ok reply))
+on_board items old new line rules bytes reply read is =
+    gives_last outcomes (game_source old new) (AreItems items) (IsBoardFound line rules) bytes (Ok reply) read
+    (λ text means. (subst (λ t. IsBoardOn rules line t reply) means is, record { verdict_is = refl; told = refl }))
+
+pub no_board : {B : Type 0} (items : B → List ℕ) (old new : Device) (line : Option ℕ) (rules : Rules) (bytes : B) (fault : RunFault)
+    → IsRead most_bytes old new (AreItems items) (Ok bytes) → fault ≡ run.NoMemory
+    → Gives outcomes (game_source old new ∷ []) (IsBoardFound line rules) (Err fault)
+no_board items old new line rules bytes fault read refused =
+    gives_stopped outcomes (game_source old new) [] (AreItems items) (IsBoardFound line rules) bytes (Err fault) read tt refused
+
+pub no_board_sheet : {B : Type 0} (items : B → List ℕ) (old new : Device) (line : Option ℕ) (rules : Rules) (fault : RunFault)
+    → IsRead most_bytes old new (AreItems items) (Err fault) → Gives outcomes (game_source old new ∷ []) (IsBoardFound line rules) (Err fault)
+no_board_sheet items old new line rules fault read =
+    gives_failed outcomes (game_source old new) [] (AreItems items) (IsBoardFound line rules) fault read tt
 
 -- the second of two
 pub on_second : {B : Type 0} (items : B → List ℕ) (old new : Device) (merged : Bool) (rules : Rules) (list : List (List ℕ)) (one : List ℕ) (bytes : B) (reply : Reply)

@@ -1,5 +1,5 @@
 -- What is found of the sheets that a call reads.
-use Rattle.std.proofs.Common.{◌≡◌, sym, subst, ℕ, Bool, List, [], ◌∷◌, length, Result, Ok, Err}
+use Rattle.std.proofs.Common.{◌≡◌, sym, subst, ℕ, Bool, List, [], ◌∷◌, length, Option, Result, Ok, Err}
 use Rattle.std.specs.Borrow.{Bor}
 use Rattle.ref_tiles.specs.declared.rulebook.Rules.{Rules}
 use Rattle.call_stages.specs.declared.decisions.Decision.{Decision}
@@ -13,7 +13,7 @@ use Rattle.serve_requests.specs.declared.requests.Request.{Request}
 use Rattle.serve_requests.specs.declared.requests.Request.TheVariants as request
 use Rattle.serve_requests.specs.Tasks.{request_of}
 use Rattle.serve_answers.specs.declared.replies.Reply.{Reply}
-use Rattle.serve_answers.specs.Replies.{IsReplyTo}
+use Rattle.serve_answers.specs.Replies.{IsReplyTo, IsReplyByRules}
 
 -- What pages are made by says how many words the list has.
 abbrev pub IsMakerOf : (list : List (List ℕ)) → Maker → Type 0
@@ -24,6 +24,11 @@ pub record IsReplyBy (rules : Rules) (list : List (List ℕ)) (asked : Request) 
   pub maker : Maker
   pub made : IsMakerOf list maker
   pub is_reply : IsReplyTo maker rules list asked reply
+
+-- what is found for a request that is about no sheet
+abbrev pub IsFoundAlone : Request → Rules → (list : List (List ℕ)) → Result Reply Decision → (texts : List (List ℕ)) → Verdict → List ℕ → Type 0
+IsFoundAlone asked rules list (Ok reply) texts v report = ReadsNoMore (λ w said. IsReplyBy rules list asked reply × IsTold verdict.Done [] w said) texts v report
+IsFoundAlone asked rules list (Err d) texts v report = ⊥
 
 -- the reply to the request that asks this of the sheet with these bytes
 pub record IsReplyOn (rules : Rules) (list : List (List ℕ)) (asked : Task) (text : List ℕ) (reply : Reply) : Type 0 where
@@ -53,6 +58,17 @@ IsFoundOnSecond merged rules list one (Err d) texts v report = ⊥
 abbrev pub IsFoundOnBoth : (merged : Bool) → Rules → (list : List (List ℕ)) → Result Reply Decision → (texts : List (List ℕ)) → Verdict → List ℕ → Type 0
 IsFoundOnBoth merged rules list found texts v report = ReadsNext (λ one. IsFoundOnSecond merged rules list one found) texts v report
 
+-- the reply to the request for the board of the sheet with these bytes, before a line if one is named
+pub record IsBoardOn (rules : Rules) (line : Option ℕ) (text : List ℕ) (reply : Reply) : Type 0 where
+  pub sheet : Bor (List ℕ)
+  pub bytes : sheet.now ≡ text
+  pub is_reply : IsReplyByRules rules (request.Board sheet line) reply
+
+-- what is found once the rules and the sheet are read, without words
+abbrev pub IsBoardFound : (line : Option ℕ) → Rules → Result Reply Decision → (texts : List (List ℕ)) → Verdict → List ℕ → Type 0
+IsBoardFound line rules (Ok reply) texts v report = ReadsNext (λ text. ReadsNoMore (λ w said. IsBoardOn rules line text reply × IsTold verdict.Done [] w said)) texts v report
+IsBoardFound line rules (Err d) texts v report = ⊥
+
 -- ---- none of these says that an input that is read before is bad
 
 done_later : IsLater verdict.Done
@@ -61,12 +77,25 @@ done_later = record { rules = λ bad. cc; words = λ bad. cc; lexicon = λ bad. 
 later_as : (v : Verdict) → v ≡ verdict.Done → IsLater v
 later_as v is = subst IsLater (sym is) done_later
 
+pub alone_later : (asked : Request) (rules : Rules) (list : List (List ℕ)) (found : Result Reply Decision) (texts : List (List ℕ)) (v : Verdict) (report : List ℕ)
+    → IsFoundAlone asked rules list found texts v report → IsLater v
+alone_later asked rules list (Ok reply) [] v report is = later_as v is.1.verdict_is
+alone_later asked rules list (Ok reply) (text ∷ rest) v report is = absurd is
+alone_later asked rules list (Err d) texts v report is = absurd is
+
 pub found_later : (asked : Task) (rules : Rules) (list : List (List ℕ)) (found : Result Reply Decision) (texts : List (List ℕ)) (v : Verdict) (report : List ℕ)
     → IsFoundOn asked rules list found texts v report → IsLater v
 found_later asked rules list (Ok reply) [] v report is = absurd is
 found_later asked rules list (Ok reply) (text ∷ []) v report is = later_as v is.1.verdict_is
 found_later asked rules list (Ok reply) (text ∷ more ∷ rest) v report is = absurd is
 found_later asked rules list (Err d) texts v report is = absurd is
+
+pub board_later : (line : Option ℕ) (rules : Rules) (found : Result Reply Decision) (texts : List (List ℕ)) (v : Verdict) (report : List ℕ)
+    → IsBoardFound line rules found texts v report → IsLater v
+board_later line rules (Ok reply) [] v report is = absurd is
+board_later line rules (Ok reply) (text ∷ []) v report is = later_as v is.1.verdict_is
+board_later line rules (Ok reply) (text ∷ more ∷ rest) v report is = absurd is
+board_later line rules (Err d) texts v report is = absurd is
 
 pub second_later : (merged : Bool) (rules : Rules) (list : List (List ℕ)) (one : List ℕ) (found : Result Reply Decision) (texts : List (List ℕ)) (v : Verdict) (report : List ℕ)
     → IsFoundOnSecond merged rules list one found texts v report → IsLater v

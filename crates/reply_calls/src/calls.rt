@@ -1,20 +1,64 @@
 //! The calls.
-ghost use Rattle.std.specs.Prelude.{◌∷◌, []};
+ghost use Rattle.std.specs.Prelude.{◌∷◌, ◌++◌, []};
 ghost use Rattle.devices.specs.Devices.{HasRoom};
-ghost use Rattle.call_stages.specs.Reading.{ReadsPair};
-ghost use Rattle.call_stages.specs.Sources.{game_source, pair_sources};
+ghost use Rattle.call_stages.specs.Reading.{ReadsPair, ReadsRulesBut};
+ghost use Rattle.call_stages.specs.Sources.{game_source, pair_sources, rules_sources};
 ghost use Rattle.reply_calls.specs.Calls.{IsReplying};
-ghost use Rattle.reply_calls.specs.Found.{IsFoundOn, IsFoundOnBoth};
+ghost use Rattle.reply_calls.specs.Found.{IsBoardFound, IsFoundAlone, IsFoundOn, IsFoundOnBoth};
 
 use crate::ended::Ended;
+use crate::finding::find_board_by_rules;
 use crate::outlets::Outlet;
-use crate::questions::{OneSheet, SheetQuestion, SheetsQuestion, TwoSheets};
-use crate::renderings::Rendering;
+use crate::questions::{OneSheet, RequestQuestion, SheetQuestion, SheetsQuestion, TwoSheets};
+use crate::renderings::{PageMaker, Rendering};
 use crate::writing::write_found;
 use call_stages::{RulesSource, RunFault, ask};
 use devices::{Input, Output};
-use serve_requests::Task;
+use serve_requests::{Request, Task};
 use std::alloc::Global;
+
+/// Reads the rules if they are not known, the words of a list and their lexicon, in this order until one is bad, and writes what is found: the reply to a
+/// request that is about no sheet, or that an input is bad. The text to be kept is kept before the report is written.
+///
+/// # Errors
+///
+/// If an input failed or memory was refused; then nothing is written to `out`. Or if an output failed.
+#[tactic(auto, using(crate::proofs::Replying::replied, crate::proofs::Replying::stopped))]
+pub fn answer_request<
+    S: RulesSource,
+    W: Input,
+    L: Input,
+    T: Rendering + PageMaker<S, W>,
+    K: Outlet,
+    O: Output,
+>(
+    alloc: Global,
+    request: &Request<'_>,
+    rules: &mut S,
+    words: &mut W,
+    lexicon: &mut L,
+    rendering: &T,
+    kept: &mut K,
+    out: &mut O,
+) -> Result<Ended, RunFault>
+    requires rules { HasRoom (S.text rules.old) }
+    requires words { HasRoom (W.device words.old) }
+    requires lexicon { HasRoom (L.device lexicon.old) }
+    requires out { HasRoom (O.device out.old) }
+    ensures { IsReplying (pair_sources (S.known rules.old) (S.text rules.old) (S.text rules.new) (W.device words.old) (W.device words.new)
+        (L.device lexicon.old) (L.device lexicon.new) [])
+        (λ found. ReadsPair (S.known rules.old) (λ stated list. IsFoundAlone request.now stated list found))
+        (T.shows rendering.now) (K.holds kept.new) (O.device out.old) (O.device out.new) result }
+{
+    let question = RequestQuestion {
+        request,
+        pages: rendering,
+    };
+    match ask(alloc, &question, rules, words, lexicon, &mut ()) {
+        Ok(found) => write_found(alloc, rendering, found, kept, out),
+        Err(fault) => Err(fault),
+    }
+}
 
 /// Reads the rules if they are not known, the words of a list, their lexicon and a sheet, in this order until one is bad, and writes what is found: the
 /// reply to what is asked of the sheet, or that an input before it is bad. The text to be kept is kept before the report is written.
@@ -28,7 +72,7 @@ pub fn answer_sheet<
     W: Input,
     L: Input,
     G: Input,
-    T: Rendering<S, W>,
+    T: Rendering + PageMaker<S, W>,
     K: Outlet,
     O: Output,
 >(
@@ -52,9 +96,12 @@ pub fn answer_sheet<
         (λ found. ReadsPair (S.known rules.old) (λ stated list. IsFoundOn task.entry stated list found))
         (T.shows rendering.now) (K.holds kept.new) (O.device out.old) (O.device out.new) result }
 {
-    let question = SheetQuestion { task, rendering };
+    let question = SheetQuestion {
+        task,
+        pages: rendering,
+    };
     match ask(alloc, &question, rules, words, lexicon, sheet) {
-        Ok(found) => write_found::<S, W, T, K, O>(alloc, rendering, found, kept, out),
+        Ok(found) => write_found(alloc, rendering, found, kept, out),
         Err(fault) => Err(fault),
     }
 }
@@ -70,7 +117,7 @@ pub fn answer_sheets<
     W: Input,
     L: Input,
     G: Input,
-    T: Rendering<S, W>,
+    T: Rendering + PageMaker<S, W>,
     K: Outlet,
     O: Output,
 >(
@@ -96,9 +143,41 @@ pub fn answer_sheets<
         (λ found. ReadsPair (S.known rules.old) (λ stated list. IsFoundOnBoth merged stated list found))
         (T.shows rendering.now) (K.holds kept.new) (O.device out.old) (O.device out.new) result }
 {
-    let question = SheetsQuestion { merged, rendering };
+    let question = SheetsQuestion {
+        merged,
+        pages: rendering,
+    };
     match ask(alloc, &question, rules, words, lexicon, sheets) {
-        Ok(found) => write_found::<S, W, T, K, O>(alloc, rendering, found, kept, out),
+        Ok(found) => write_found(alloc, rendering, found, kept, out),
+        Err(fault) => Err(fault),
+    }
+}
+
+/// Reads the rules if they are not known and a sheet, in this order until one is bad, and writes what is found: the reply to the request for the board of
+/// the sheet, before a line if one is named, or that the rules are bad. No words are read.
+///
+/// # Errors
+///
+/// If an input failed or memory was refused; then nothing is written to `out`. Or if an output failed.
+#[tactic(auto, using(crate::proofs::Replying::replied, crate::proofs::Replying::stopped))]
+pub fn answer_board<S: RulesSource, G: Input, T: Rendering, K: Outlet, O: Output>(
+    alloc: Global,
+    line: Option<u32>,
+    rules: &mut S,
+    sheet: &mut G,
+    rendering: &T,
+    kept: &mut K,
+    out: &mut O,
+) -> Result<Ended, RunFault>
+    requires rules { HasRoom (S.text rules.old) }
+    requires sheet { HasRoom (G.device sheet.old) }
+    requires out { HasRoom (O.device out.old) }
+    ensures { IsReplying (rules_sources (S.known rules.old) (S.text rules.old) (S.text rules.new) ++ game_source (G.device sheet.old) (G.device sheet.new) ∷ [])
+        (λ found. ReadsRulesBut (S.known rules.old) (λ stated. IsBoardFound line stated found))
+        (T.shows rendering.now) (K.holds kept.new) (O.device out.old) (O.device out.new) result }
+{
+    match find_board_by_rules(alloc, rules, sheet, line) {
+        Ok(found) => write_found(alloc, rendering, found, kept, out),
         Err(fault) => Err(fault),
     }
 }

@@ -1,20 +1,22 @@
 //! What is found of sheets that are read.
-ghost use Rattle.std.specs.Prelude.{◌≡◌, ◌∷◌, [], IfOk, OnOk};
+ghost use Rattle.std.specs.Prelude.{◌≡◌, ◌∷◌, ◌++◌, [], IfOk, OnOk};
 ghost use Rattle.devices.specs.Devices.{HasRoom};
 ghost use Rattle.gcg_read.specs.Records.{most_bytes};
 ghost use Rattle.lex_check.specs.Pairs.{list_in};
+ghost use Rattle.call_stages.specs.Reading.{ReadsRulesBut};
 ghost use Rattle.call_stages.specs.Runs.{Gives, outcomes};
-ghost use Rattle.call_stages.specs.Sources.{game_source};
+ghost use Rattle.call_stages.specs.Sources.{game_source, rules_sources};
 ghost use Rattle.call_stages.specs.Stages.{IsRead};
 ghost use Rattle.serve_answers.specs.Given.{FailsForMemoryAlone};
-ghost use Rattle.reply_calls.specs.Found.{IsReplyBy, IsReplyOn, IsReplyOnBoth, IsFoundOn, IsFoundOnSecond, IsFoundOnBoth};
+ghost use Rattle.reply_calls.specs.Found.{IsReplyBy, IsReplyOn, IsReplyOnBoth, IsBoardOn, IsBoardFound, IsFoundAlone, IsFoundOn, IsFoundOnSecond, IsFoundOnBoth};
 
-use crate::renderings::Rendering;
-use call_stages::{Decision, Given, RunFault, read_text};
+use crate::renderings::PageMaker;
+use call_stages::{Decision, Given, RulesSource, RunFault, read_text};
 use devices::Input;
 use gcg_read::MAX_BYTES;
 use known_bests::KnownBests;
-use serve_answers::{Judges, Reply, reply_to};
+use ref_tiles::Rules;
+use serve_answers::{Judges, Reply, board_reply, reply_to};
 use serve_requests::{Request, Task};
 use std::alloc::Global;
 
@@ -31,16 +33,16 @@ fn read_sheet<G: Input>(alloc: Global, sheet: &mut G) -> Result<Vec<u8>, RunFaul
 }
 
 /// The reply to a request.
-fn reply_by<S, W, T: Rendering<S, W>>(
+fn reply_by<S, W, T: PageMaker<S, W>>(
     alloc: Global,
     given: &Given<'_, S, W>,
-    rendering: &T,
+    pages: &T,
     request: &Request<'_>,
 ) -> Result<Reply, RunFault>
     ensures reply { IfOk result (IsReplyBy given.now.rules.now (list_in given.now.pair.now) request.now) }
     ensures memory { FailsForMemoryAlone result }
 {
-    let maker = rendering.maker(alloc, given)?;
+    let maker = pages.maker(alloc, given)?;
     let judges = Judges {
         rules: given.rules,
         pair: given.pair,
@@ -50,25 +52,41 @@ fn reply_by<S, W, T: Rendering<S, W>>(
     reply_to(alloc, &judges, request, &mut known)
 }
 
-/// The reply to what is asked of a sheet with these bytes.
-fn reply_on<S, W, T: Rendering<S, W>>(
+/// What is found for a request that is about no sheet.
+#[tactic(auto, using(crate::proofs::SheetLaws::alone, crate::proofs::SheetLaws::no_reply_alone))]
+pub fn find_alone<S, W, T: PageMaker<S, W>>(
     alloc: Global,
     given: &Given<'_, S, W>,
-    rendering: &T,
+    pages: &T,
+    request: &Request<'_>,
+) -> Result<Result<Reply, Decision>, RunFault>
+    ensures { Gives outcomes [] (IsFoundAlone request.now given.now.rules.now (list_in given.now.pair.now)) result }
+{
+    match reply_by(alloc, given, pages, request) {
+        Ok(reply) => Ok(Ok(reply)),
+        Err(fault) => Err(fault),
+    }
+}
+
+/// The reply to what is asked of a sheet with these bytes.
+fn reply_on<S, W, T: PageMaker<S, W>>(
+    alloc: Global,
+    given: &Given<'_, S, W>,
+    pages: &T,
     text: &[u8],
     task: Task<'_>,
 ) -> Result<Reply, RunFault>
     ensures reply { IfOk result (IsReplyOn given.now.rules.now (list_in given.now.pair.now) task.entry text.now) }
     ensures memory { FailsForMemoryAlone result }
 {
-    reply_by(alloc, given, rendering, &task.of_game(text))
+    reply_by(alloc, given, pages, &task.of_game(text))
 }
 
 /// The reply to a request to compare sheets with these bytes.
-fn reply_on_both<S, W, T: Rendering<S, W>>(
+fn reply_on_both<S, W, T: PageMaker<S, W>>(
     alloc: Global,
     given: &Given<'_, S, W>,
-    rendering: &T,
+    pages: &T,
     first: &[u8],
     second: &[u8],
     merged: bool,
@@ -81,15 +99,15 @@ fn reply_on_both<S, W, T: Rendering<S, W>>(
         second,
         merged,
     };
-    reply_by(alloc, given, rendering, &request)
+    reply_by(alloc, given, pages, &request)
 }
 
 /// Reads a sheet, and finds what is asked of it.
 #[tactic(auto, using(crate::proofs::SheetLaws::on_sheet, crate::proofs::SheetLaws::no_reply, crate::proofs::SheetLaws::no_sheet))]
-pub fn find_on<S, W, T: Rendering<S, W>, G: Input>(
+pub fn find_on<S, W, T: PageMaker<S, W>, G: Input>(
     alloc: Global,
     given: &Given<'_, S, W>,
-    rendering: &T,
+    pages: &T,
     sheet: &mut G,
     task: Task<'_>,
 ) -> Result<Result<Reply, Decision>, RunFault>
@@ -98,7 +116,7 @@ pub fn find_on<S, W, T: Rendering<S, W>, G: Input>(
         (IsFoundOn task.entry given.now.rules.now (list_in given.now.pair.now)) result }
 {
     match read_sheet(alloc, sheet) {
-        Ok(text) => match reply_on(alloc, given, rendering, text.as_slice(), task) {
+        Ok(text) => match reply_on(alloc, given, pages, text.as_slice(), task) {
             Ok(reply) => Ok(Ok(reply)),
             Err(fault) => Err(fault),
         },
@@ -108,10 +126,10 @@ pub fn find_on<S, W, T: Rendering<S, W>, G: Input>(
 
 /// Reads the second of two sheets, and compares both.
 #[tactic(auto, using(crate::proofs::SheetLaws::on_second, crate::proofs::SheetLaws::no_reply_on_both, crate::proofs::SheetLaws::no_second))]
-fn find_on_second<S, W, T: Rendering<S, W>, G: Input>(
+fn find_on_second<S, W, T: PageMaker<S, W>, G: Input>(
     alloc: Global,
     given: &Given<'_, S, W>,
-    rendering: &T,
+    pages: &T,
     first: &[u8],
     second: &mut G,
     merged: bool,
@@ -121,7 +139,7 @@ fn find_on_second<S, W, T: Rendering<S, W>, G: Input>(
         (IsFoundOnSecond merged given.now.rules.now (list_in given.now.pair.now) first.now) result }
 {
     match read_sheet(alloc, second) {
-        Ok(text) => match reply_on_both(alloc, given, rendering, first, text.as_slice(), merged) {
+        Ok(text) => match reply_on_both(alloc, given, pages, first, text.as_slice(), merged) {
             Ok(reply) => Ok(Ok(reply)),
             Err(fault) => Err(fault),
         },
@@ -131,10 +149,10 @@ fn find_on_second<S, W, T: Rendering<S, W>, G: Input>(
 
 /// Reads two sheets, and compares them.
 #[tactic(auto, using(crate::proofs::SheetLaws::on_both, crate::proofs::SheetLaws::no_first))]
-pub fn find_on_both<S, W, T: Rendering<S, W>, G: Input>(
+pub fn find_on_both<S, W, T: PageMaker<S, W>, G: Input>(
     alloc: Global,
     given: &Given<'_, S, W>,
-    rendering: &T,
+    pages: &T,
     first: &mut G,
     second: &mut G,
     merged: bool,
@@ -145,7 +163,54 @@ pub fn find_on_both<S, W, T: Rendering<S, W>, G: Input>(
         (IsFoundOnBoth merged given.now.rules.now (list_in given.now.pair.now)) result }
 {
     match read_sheet(alloc, first) {
-        Ok(text) => find_on_second(alloc, given, rendering, text.as_slice(), second, merged),
+        Ok(text) => find_on_second(alloc, given, pages, text.as_slice(), second, merged),
+        Err(fault) => Err(fault),
+    }
+}
+
+/// The reply to the request for the board of a sheet with these bytes.
+fn board_on(alloc: Global, rules: &Rules, text: &[u8], line: Option<u32>) -> Result<Reply, RunFault>
+    ensures reply { IfOk result (IsBoardOn rules.now line text.now) }
+    ensures memory { FailsForMemoryAlone result }
+{
+    board_reply(alloc, rules, text, line)
+}
+
+/// Reads a sheet, and finds its board.
+#[tactic(auto, using(crate::proofs::SheetLaws::on_board, crate::proofs::SheetLaws::no_board, crate::proofs::SheetLaws::no_board_sheet))]
+fn find_board<G: Input>(
+    alloc: Global,
+    rules: &Rules,
+    sheet: &mut G,
+    line: Option<u32>,
+) -> Result<Result<Reply, Decision>, RunFault>
+    requires { HasRoom (G.device sheet.old) }
+    ensures { Gives outcomes (game_source (G.device sheet.old) (G.device sheet.new) ∷ []) (IsBoardFound line rules.now) result }
+{
+    match read_sheet(alloc, sheet) {
+        Ok(text) => match board_on(alloc, rules, text.as_slice(), line) {
+            Ok(reply) => Ok(Ok(reply)),
+            Err(fault) => Err(fault),
+        },
+        Err(fault) => Err(fault),
+    }
+}
+
+/// Reads the rules if they are not known, and then a sheet, and finds its board.
+pub fn find_board_by_rules<S: RulesSource, G: Input>(
+    alloc: Global,
+    rules: &mut S,
+    sheet: &mut G,
+    line: Option<u32>,
+) -> Result<Result<Reply, Decision>, RunFault>
+    requires rules { HasRoom (S.text rules.old) }
+    requires sheet { HasRoom (G.device sheet.old) }
+    ensures { Gives outcomes (rules_sources (S.known rules.old) (S.text rules.old) (S.text rules.new) ++ game_source (G.device sheet.old) (G.device sheet.new) ∷ [])
+        (λ found. ReadsRulesBut (S.known rules.old) (λ stated. IsBoardFound line stated found)) result }
+{
+    match rules.read(alloc) {
+        Ok(Ok(stated)) => find_board(alloc, &stated, sheet, line),
+        Ok(Err(decision)) => Ok(Err(decision)),
         Err(fault) => Err(fault),
     }
 }

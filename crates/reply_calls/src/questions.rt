@@ -1,15 +1,15 @@
-//! What is asked of sheets, once the rules, the words and the lexicon are read.
-ghost use Rattle.std.specs.Prelude.{◌∷◌, [], refl};
+//! What is asked once the rules, the words and the lexicon are read.
+ghost use Rattle.std.specs.Prelude.{⊤, ◌∷◌, [], refl};
 ghost use Rattle.devices.specs.Devices.{HasRoom};
 ghost use Rattle.call_stages.specs.Sources.{game_source};
-ghost use Rattle.reply_calls.specs.Found.{IsFoundOn, IsFoundOnBoth, found_later, both_later};
+ghost use Rattle.reply_calls.specs.Found.{IsFoundAlone, IsFoundOn, IsFoundOnBoth, alone_later, found_later, both_later};
 
-use crate::finding::{find_on, find_on_both};
-use crate::renderings::Rendering;
+use crate::finding::{find_alone, find_on, find_on_both};
+use crate::renderings::PageMaker;
 use call_stages::{Decision, Given, Question, RunFault};
 use devices::Input;
 use serve_answers::Reply;
-use serve_requests::Task;
+use serve_requests::{Request, Task};
 use std::alloc::Global;
 
 /// One sheet, which is read.
@@ -28,13 +28,22 @@ pub struct TwoSheets<G> {
     pub second: G,
 }
 
+/// A request that is about no sheet.
+#[derive(Clone, Copy)]
+pub struct RequestQuestion<'a, T> {
+    /// It.
+    pub request: &'a Request<'a>,
+    /// What says what pages are made by.
+    pub pages: &'a T,
+}
+
 /// What is asked of one sheet.
 #[derive(Clone, Copy)]
 pub struct SheetQuestion<'a, T> {
     /// It.
     pub task: Task<'a>,
-    /// The way in which it is written, which says what pages are made by.
-    pub rendering: &'a T,
+    /// What says what pages are made by.
+    pub pages: &'a T,
 }
 
 /// That two sheets are to be compared.
@@ -42,11 +51,34 @@ pub struct SheetQuestion<'a, T> {
 pub struct SheetsQuestion<'a, T> {
     /// Whether the merged record is requested.
     pub merged: bool,
-    /// The way in which it is written, which says what pages are made by.
-    pub rendering: &'a T,
+    /// What says what pages are made by.
+    pub pages: &'a T,
 }
 
-impl<S, W, G: Input, T: Rendering<S, W>> Question<S, W, OneSheet<G>> for SheetQuestion<'_, T> {
+impl<S, W, T: PageMaker<S, W>> Question<S, W, ()> for RequestQuestion<'_, T> {
+    type Answer = Result<Reply, Decision>;
+
+    ghost sources = { λ old new. [] };
+
+    ghost is_ready = { λ more. ⊤ };
+
+    ghost is_answer = { λ question rules words x texts v report. IsFoundAlone question.request.now rules words x texts v report };
+
+    fn answer(
+        &self,
+        alloc: Global,
+        given: &Given<'_, S, W>,
+        _more: &mut (),
+    ) -> Result<Result<Reply, Decision>, RunFault> {
+        find_alone(alloc, given, self.pages, self.request)
+    }
+
+    ghost still = { λ more. tt };
+
+    ghost later = { λ question rules words x texts v report is. alone_later question.request.now rules words x texts v report is };
+}
+
+impl<S, W, G: Input, T: PageMaker<S, W>> Question<S, W, OneSheet<G>> for SheetQuestion<'_, T> {
     type Answer = Result<Reply, Decision>;
 
     ghost sources = { λ old new. game_source (G.device old.sheet) (G.device new.sheet) ∷ [] };
@@ -61,7 +93,7 @@ impl<S, W, G: Input, T: Rendering<S, W>> Question<S, W, OneSheet<G>> for SheetQu
         given: &Given<'_, S, W>,
         more: &mut OneSheet<G>,
     ) -> Result<Result<Reply, Decision>, RunFault> {
-        find_on(alloc, given, self.rendering, &mut more.sheet, self.task)
+        find_on(alloc, given, self.pages, &mut more.sheet, self.task)
     }
 
     ghost still = { λ more. (refl, tt) };
@@ -69,7 +101,7 @@ impl<S, W, G: Input, T: Rendering<S, W>> Question<S, W, OneSheet<G>> for SheetQu
     ghost later = { λ question rules words x texts v report is. found_later question.task rules words x texts v report is };
 }
 
-impl<S, W, G: Input, T: Rendering<S, W>> Question<S, W, TwoSheets<G>> for SheetsQuestion<'_, T> {
+impl<S, W, G: Input, T: PageMaker<S, W>> Question<S, W, TwoSheets<G>> for SheetsQuestion<'_, T> {
     type Answer = Result<Reply, Decision>;
 
     ghost sources = { λ old new. game_source (G.device old.first) (G.device new.first) ∷ game_source (G.device old.second) (G.device new.second) ∷ [] };
@@ -87,7 +119,7 @@ impl<S, W, G: Input, T: Rendering<S, W>> Question<S, W, TwoSheets<G>> for Sheets
         find_on_both(
             alloc,
             given,
-            self.rendering,
+            self.pages,
             &mut more.first,
             &mut more.second,
             self.merged,

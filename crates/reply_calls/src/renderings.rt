@@ -1,4 +1,4 @@
-//! What is written of what was found.
+//! What is written of what was found, and what pages are made by.
 ghost use Rattle.std.specs.Prelude.{IfOk, Result};
 ghost use Rattle.lex_check.specs.Pairs.{list_in};
 ghost use Rattle.call_stages.specs.declared.decisions.Decision.{Decision};
@@ -11,18 +11,21 @@ use page_answers::Maker;
 use serve_answers::{Printed, Reply};
 use std::alloc::{AllocError, Global};
 
-/// A way to write what was found: the reply, or the decision that an input that is read before the sheets is bad. It also says what pages are made by.
-pub trait Rendering<S, W> {
-    // What is written of what was found.
-    ghost shows: { Self → Result Reply Decision → Printed → Type 0 };
-
-    /// What pages are made by, by what was read.
+/// What the pages of replies are made by.
+pub trait PageMaker<S, W> {
+    /// What they are made by, by what was read.
     ///
     /// # Errors
     ///
     /// It fails only if memory is refused.
     fn maker(&self, alloc: Global, given: &Given<'_, S, W>) -> Result<Maker, AllocError>
         ensures { IfOk result (IsMakerOf (list_in given.now.pair.now)) };
+}
+
+/// A way to write what was found: the reply, or the decision that an input that is read before the sheets is bad.
+pub trait Rendering {
+    // What is written of what was found.
+    ghost shows: { Self → Result Reply Decision → Printed → Type 0 };
 
     /// What is written.
     ///

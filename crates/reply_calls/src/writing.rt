@@ -58,7 +58,7 @@ fn write_printed<K: Outlet, O: Output>(
 
 /// Writes what was found: first the text to be kept, if there is one, then the report.
 #[tactic(auto, using(crate::proofs::Replying::written, crate::proofs::Replying::output_failed, crate::proofs::Replying::memory_refused))]
-pub fn write_found<S, W, T: Rendering<S, W>, K: Outlet, O: Output>(
+pub fn write_found<T: Rendering, K: Outlet, O: Output>(
     alloc: Global,
     rendering: &T,
     found: Result<Reply, Decision>,

@@ -1,4 +1,7 @@
 //! What is written of an audit.
+ghost use Rattle.std.specs.Prelude.{◌≡◌, ◌&&◌, is_some, IfOk, IfSome};
+ghost use Rattle.audit_lines.specs.Standing.{is_written};
+ghost use Rattle.reply_texts.specs.Kept.{has_event, is_corrected, IsCorrectedText, IsCorrectedOf};
 
 use crate::cases::NO_GAME;
 use audit_lines::{AuditAnswer, corrected_text, is_corrected, is_written, push_audit};
@@ -13,7 +16,10 @@ const NOT_CORRECTED: &[u8] =
     b"not written: either the bonus or penalty after Or: is missing, or the number is wrong\n";
 
 /// The line of a bonus or a penalty that would explain the numbers of a sheet, if there is one.
-fn amount_line(alloc: Global, amount: &Option<SheetAmount>) -> Result<Vec<u8>, AllocError> {
+pub(crate) fn amount_line(
+    alloc: Global,
+    amount: &Option<SheetAmount>,
+) -> Result<Vec<u8>, AllocError> {
     let mut line = Vec::new(alloc);
     if let Some(amount) = amount {
         push_amount(&mut line, &amount.record, Some(&amount.repair))?;
@@ -21,13 +27,21 @@ fn amount_line(alloc: Global, amount: &Option<SheetAmount>) -> Result<Vec<u8>, A
     Ok(line)
 }
 
+/// Appends why the corrected record is not written, if it stands but is not.
+pub(crate) fn push_why_not(text: &mut Vec<u8>, answer: &AuditAnswer) -> Result<(), AllocError> {
+    if is_corrected(&answer.audit) && !is_written(answer) {
+        text.extend_from_slice(NOT_CORRECTED)?;
+    }
+    Ok(())
+}
+
 /// The lines of an audit; if the corrected record is requested and stands but is not written, also why.
 fn lines_of(alloc: Global, answer: &AuditAnswer, corrected: bool) -> Result<Vec<u8>, AllocError> {
     let amount = amount_line(alloc, &answer.amount)?;
     let mut told = Vec::new(alloc);
     push_audit(alloc, &mut told, &answer.audit, amount.as_slice())?;
-    if corrected && is_corrected(&answer.audit) && !is_written(answer) {
-        told.extend_from_slice(NOT_CORRECTED)?;
+    if corrected {
+        push_why_not(&mut told, answer)?;
     }
     Ok(told)
 }
@@ -37,30 +51,42 @@ pub fn corrected_of(
     alloc: Global,
     answer: &AuditAnswer,
     corrected: bool,
-) -> Result<Option<Vec<u8>>, AllocError> {
+) -> Result<Option<Vec<u8>>, AllocError>
+    ensures asked { IfOk result (λ kept. is_some kept ≡ (corrected && is_written answer.now)) }
+    ensures text { IfOk result (λ kept. IfSome kept (λ text. IsCorrectedText answer.now text.items)) }
+{
     if corrected && is_written(answer) {
-        return Ok(Some(corrected_text(alloc, &answer.audit)?));
+        let text = corrected_text(alloc, &answer.audit)?;
+        return Ok(Some(text));
     }
     Ok(None)
 }
 
+/// Whether a record with this finding has an event.
+fn has_event(finding: &Finding) -> bool
+    ensures { result ≡ has_event finding.now }
+{
+    !matches!(finding, Finding::NoGame)
+}
+
 /// An audit in words: each wrong number, what would explain them, the verdict on the corrected record, and who is ahead.
-fn answer_words(
-    alloc: Global,
-    answer: &AuditAnswer,
-    corrected: bool,
-) -> Result<Printed, AllocError> {
-    if answer.audit.entry.finding == Finding::NoGame {
+fn answer_words(alloc: Global, answer: &AuditAnswer, corrected: bool) -> Result<Printed, AllocError>
+    ensures asked { IfOk result (λ printed. is_some printed.kept ≡ (has_event answer.now.audit.entry.finding && (corrected && is_written answer.now))) }
+    ensures text { IfOk result (λ printed. IfSome printed.kept (λ text. IsCorrectedText answer.now text.items)) }
+{
+    if !has_event(&answer.audit.entry.finding) {
         return Printed::of_bytes(alloc, NO_GAME);
     }
-    Ok(Printed {
-        report: lines_of(alloc, answer, corrected)?,
-        kept: corrected_of(alloc, answer, corrected)?,
-    })
+    let report = lines_of(alloc, answer, corrected)?;
+    let kept = corrected_of(alloc, answer, corrected)?;
+    Ok(Printed { report, kept })
 }
 
 /// An audit in words, or that the text is not a record.
-pub fn audit_words(alloc: Global, sheet: &AuditedSheet) -> Result<Printed, AllocError> {
+pub fn audit_words(alloc: Global, sheet: &AuditedSheet) -> Result<Printed, AllocError>
+    ensures asked { IfOk result (λ printed. is_some printed.kept ≡ is_corrected sheet.now) }
+    ensures text { IfOk result (λ printed. IfSome printed.kept (λ text. IsCorrectedOf sheet.now.found text.items)) }
+{
     match &sheet.found {
         Ok(answer) => answer_words(alloc, answer, sheet.corrected),
         Err(decision) => Printed::of_bytes(alloc, decision.report.as_slice()),

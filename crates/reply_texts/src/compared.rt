@@ -1,4 +1,6 @@
 //! What is found of two sheets, in words and as an object.
+ghost use Rattle.std.specs.Prelude.{◌≡◌, ◌&&◌, is_some, None, IfOk, IfSome};
+ghost use Rattle.reply_texts.specs.Kept.{has_merged, is_merged, IsNormalForm, IsMergedText};
 
 use crate::bodies::Body;
 use crate::cases::NO_GAME;
@@ -24,7 +26,10 @@ fn text_of(alloc: Global, both: &BothCompared) -> Result<Vec<u8>, AllocError> {
 }
 
 /// The merged record in the normal form, if there is one.
-fn merged_text(alloc: Global, answer: &ComparisonAnswer) -> Result<Option<Vec<u8>>, AllocError> {
+fn merged_text(alloc: Global, answer: &ComparisonAnswer) -> Result<Option<Vec<u8>>, AllocError>
+    ensures asked { IfOk result (λ kept. is_some kept ≡ has_merged answer.now.merged) }
+    ensures text { IfOk result (λ kept. IfSome kept (λ text. IsNormalForm answer.now.merged text.items)) }
+{
     let Ok(game) = &answer.merged else {
         return Ok(None);
     };
@@ -36,7 +41,10 @@ fn merged_text(alloc: Global, answer: &ComparisonAnswer) -> Result<Option<Vec<u8
 }
 
 /// The merged record, if it is requested and there is one.
-fn merged_of(alloc: Global, both: &BothCompared) -> Result<Option<Vec<u8>>, AllocError> {
+fn merged_of(alloc: Global, both: &BothCompared) -> Result<Option<Vec<u8>>, AllocError>
+    ensures asked { IfOk result (λ kept. is_some kept ≡ (both.now.merged && has_merged both.now.answer.merged)) }
+    ensures text { IfOk result (λ kept. IfSome kept (λ text. IsNormalForm both.now.answer.merged text.items)) }
+{
     if both.merged {
         merged_text(alloc, &both.answer)
     } else {
@@ -45,20 +53,32 @@ fn merged_of(alloc: Global, both: &BothCompared) -> Result<Option<Vec<u8>>, Allo
 }
 
 /// Why there is nothing to compare on a sheet.
-fn bad_words(alloc: Global, bad: &BadSheet) -> Result<Printed, AllocError> {
+fn bad_words(alloc: Global, bad: &BadSheet) -> Result<Printed, AllocError>
+    ensures { IfOk result (λ printed. printed.kept ≡ None) }
+{
     match bad {
         BadSheet::NoRecord(fault) => Ok(Printed::report(bad_record_line(alloc, fault)?)),
         BadSheet::NoEvent(_) => Printed::of_bytes(alloc, NO_GAME),
     }
 }
 
+/// Both sheets, compared, in words.
+fn both_words(alloc: Global, both: &BothCompared) -> Result<Printed, AllocError>
+    ensures asked { IfOk result (λ printed. is_some printed.kept ≡ (both.now.merged && has_merged both.now.answer.merged)) }
+    ensures text { IfOk result (λ printed. IfSome printed.kept (λ text. IsNormalForm both.now.answer.merged text.items)) }
+{
+    let report = text_of(alloc, both)?;
+    let kept = merged_of(alloc, both)?;
+    Ok(Printed { report, kept })
+}
+
 /// What is found of two sheets, in words.
-pub fn compared_words(alloc: Global, found: &SheetsFound) -> Result<Printed, AllocError> {
+pub fn compared_words(alloc: Global, found: &SheetsFound) -> Result<Printed, AllocError>
+    ensures asked { IfOk result (λ printed. is_some printed.kept ≡ is_merged found.now) }
+    ensures text { IfOk result (λ printed. IfSome printed.kept (λ text. IsMergedText found.now text.items)) }
+{
     match found {
-        SheetsFound::Both(both) => Ok(Printed {
-            report: text_of(alloc, both)?,
-            kept: merged_of(alloc, both)?,
-        }),
+        SheetsFound::Both(both) => both_words(alloc, both),
         SheetsFound::FirstBad(bad) | SheetsFound::SecondBad(bad) => bad_words(alloc, bad),
     }
 }

@@ -10,6 +10,7 @@ use page_answers::PagedCase;
 use page_words::page_text;
 use serve_answers::Printed;
 use std::alloc::{AllocError, Global};
+use unread_lines::unread_lines;
 
 /// The page of a case.
 fn page_of(alloc: Global, paged: &PagedCase) -> Result<Vec<u8>, AllocError> {
@@ -65,7 +66,14 @@ pub fn paged_body(alloc: Global, paged: &PagedCase) -> Result<Body, AllocError> 
         return Ok(Body::Text(page_of(alloc, paged)?));
     }
     let likely = paged.likely.as_ref();
-    let object = case_text(alloc, &paged.case, explanation_of(paged), likely)?;
+    let unread = unread_lines(alloc, paged.case.text.as_slice())?;
+    let object = case_text(
+        alloc,
+        &paged.case,
+        explanation_of(paged),
+        likely,
+        unread.as_slice(),
+    )?;
     Ok(Body::Object(object))
 }
 
@@ -74,5 +82,7 @@ pub fn annotated_body(alloc: Global, sheet: &AnnotatedSheet) -> Result<Body, All
     if has_event(&sheet.case) {
         return Ok(Body::Text(annotated_text(alloc, sheet)?));
     }
-    Ok(Body::Object(case_text(alloc, &sheet.case, None, None)?))
+    let unread = unread_lines(alloc, sheet.case.text.as_slice())?;
+    let object = case_text(alloc, &sheet.case, None, None, unread.as_slice())?;
+    Ok(Body::Object(object))
 }

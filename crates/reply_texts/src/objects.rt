@@ -3,10 +3,11 @@
 use crate::audits::corrected_of;
 use crate::bodies::Body;
 use crate::compared::compared_body;
+use crate::drafted::{filled_body, next_object};
 use crate::made::{annotated_body, paged_body};
 use crate::repaired::{repaired_object, repaired_of};
 use crate::ruled::{push_no_word, push_ruled};
-use answer_json::push_refusal;
+use answer_json::{push_checked, push_refusal};
 use call_stages::{Decision, Verdict};
 use case_objects::case_text;
 use game_answers::FoundPlays;
@@ -16,7 +17,6 @@ use serve_answers::{
 };
 use sheet_json::{push_audit_answer, push_shown_board};
 use std::alloc::{AllocError, Global};
-use unread_lines::unread_lines;
 
 /// That an input is bad.
 pub fn refusal_object(alloc: Global, decision: &Decision) -> Result<Vec<u8>, AllocError> {
@@ -44,6 +44,7 @@ fn explained_object(alloc: Global, explained: &ExplainedCase) -> Result<Vec<u8>,
         &explained.case,
         explained.explanation.as_ref(),
         explained.likely.as_ref(),
+        explained.unread.as_slice(),
     )
 }
 
@@ -52,9 +53,8 @@ fn audited_object(alloc: Global, sheet: &AuditedSheet) -> Result<Body, AllocErro
     match &sheet.found {
         Err(decision) => Ok(Body::Object(refusal_object(alloc, decision)?)),
         Ok(answer) => {
-            let unread = unread_lines(alloc, answer.audit.text.as_slice())?;
             let mut text = Vec::new(alloc);
-            push_audit_answer(alloc, &mut text, answer, unread.as_slice())?;
+            push_audit_answer(alloc, &mut text, answer, sheet.unread.as_slice())?;
             let corrected = corrected_of(alloc, answer, sheet.corrected)?;
             Ok(Body::with_text(text, corrected))
         }
@@ -98,6 +98,13 @@ fn ruled_object(alloc: Global, ruled: &Option<Ruled>) -> Result<Vec<u8>, AllocEr
     Ok(text)
 }
 
+/// How many words a list has.
+fn checked_object(alloc: Global, words: usize) -> Result<Vec<u8>, AllocError> {
+    let mut text = Vec::new(alloc);
+    push_checked(alloc, &mut text, words)?;
+    Ok(text)
+}
+
 /// What repairs a record, with the repaired sheet if that is requested.
 fn repairs_object(alloc: Global, repaired: &RepairedCase) -> Result<Body, AllocError> {
     let object = repaired_object(alloc, repaired)?;
@@ -126,10 +133,13 @@ pub fn as_object(alloc: Global, reply: &Reply) -> Result<Body, AllocError> {
         Reply::Boarded(sheet) => Ok(Body::Object(board_object(alloc, sheet)?)),
         Reply::Found(found) => Ok(Body::Object(plays_object(alloc, found)?)),
         Reply::Ruled(ruled) => Ok(Body::Object(ruled_object(alloc, ruled)?)),
+        Reply::Checked(words) => Ok(Body::Object(checked_object(alloc, *words)?)),
         Reply::Tidied(decision) => tidied_body(alloc, decision),
         Reply::Paged(paged) => paged_body(alloc, paged),
         Reply::Annotated(sheet) => annotated_body(alloc, sheet),
         Reply::Compared(found) => compared_body(alloc, found),
         Reply::Repaired(repaired) => repairs_object(alloc, repaired),
+        Reply::Filled(sheet) => filled_body(alloc, sheet),
+        Reply::Next(found) => Ok(Body::Object(next_object(alloc, found)?)),
     }
 }

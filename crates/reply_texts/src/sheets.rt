@@ -1,96 +1,150 @@
 //! The text of the sheet that a repair gives.
+ghost use Rattle.std.specs.Prelude.{◌≡◌, IfOk, IfSome};
+ghost use Rattle.gcg_numbers.specs.Numbers.{text_with};
+ghost use Rattle.reply_texts.specs.Kept.{IsRenumbered, IsTextBy, IsChosenText, IsLineText, IsTextOfRead, IsRepairedText};
+ghost use Rattle.repaired_sheets.specs.Sheets as without;
+ghost use Rattle.repaired_sheets.specs.Texts as texts;
 
 use call_stages::game_from;
-use game_case::Case;
-use game_rows::{Numbers, renumber};
+use game_case::{Case, Entry};
+use game_rows::renumber;
 use gcg_numbers::push_with_numbers;
-use gcg_read::Players;
+use gcg_read::{Event, Players};
 use record_repairs::Repair;
 use repair_answers::{
-    Choice, Faulty, LineRepairs, RepairAnswer, SheetRepair, choice_of, choice_of_line,
+    Choice, Faulty, LineRepairs, NumbersAlone, RepairAnswer, SheetRepair, choice_of, choice_of_line,
 };
 use repair_lines::says_each_line;
 use repaired_sheets::{can_be_without, can_be_written, repaired_text, sheet_without};
 use std::alloc::{AllocError, Global};
 
-/// The text of the sheet of a case with a repair; `None` if it cannot be written.
-fn sheet_with(alloc: Global, case: &Case, repair: &Repair) -> Result<Option<Vec<u8>>, AllocError> {
-    let Ok(entry) = &case.read else {
-        return Ok(None);
-    };
-    let players = &entry.record.players;
+/// A text of a sheet with a repair; `None` if it cannot be written.
+fn sheet_with(
+    alloc: Global,
+    text: &[u8],
+    players: &Players,
+    repair: &Repair,
+) -> Result<Option<Vec<u8>>, AllocError>
+    ensures { IfOk result (λ made. IfSome made (λ t. t.items ≡ texts.repaired_text repair.now.listed.change players.now repair.now.right text.now)) }
+{
     let right = repair.right.as_slice();
     if !can_be_written(players, right) {
         return Ok(None);
     }
-    let change = &repair.listed.change;
-    let text = repaired_text(alloc, case.text.as_slice(), players, change, right)?;
-    Ok(Some(text))
+    let made = repaired_text(alloc, text, players, &repair.listed.change, right)?;
+    Ok(Some(made))
 }
 
-/// The text of the sheet of a case without a slip of the whole sheet; `None` if it cannot be written.
+/// A text of a sheet without a slip of the whole sheet; `None` if it cannot be written.
 fn sheet_of(
     alloc: Global,
-    case: &Case,
+    text: &[u8],
+    players: &Players,
     repair: &SheetRepair,
-) -> Result<Option<Vec<u8>>, AllocError> {
-    let Ok(entry) = &case.read else {
-        return Ok(None);
-    };
-    let players = &entry.record.players;
+) -> Result<Option<Vec<u8>>, AllocError>
+    ensures { IfOk result (λ made. IfSome made (λ t. t.items ≡ without.sheet_without repair.now.slip players.now repair.now.right text.now)) }
+{
     let right = repair.right.as_slice();
     if !says_each_line(&repair.slip) || !can_be_without(players, &repair.slip, right) {
         return Ok(None);
     }
-    let text = sheet_without(alloc, case.text.as_slice(), players, &repair.slip, right)?;
-    Ok(Some(text))
+    let made = sheet_without(alloc, text, players, &repair.slip, right)?;
+    Ok(Some(made))
 }
 
-/// A text of a record with these scores and totals.
+/// A text with the scores and totals of these events.
+fn text_with(alloc: Global, text: &[u8], events: &[Event]) -> Result<Vec<u8>, AllocError>
+    ensures { IfOk result (λ made. made.items ≡ text_with events.now text.now) }
+{
+    let mut made = Vec::new(alloc);
+    push_with_numbers(&mut made, text, events)?;
+    Ok(made)
+}
+
+/// A text of a record with its right scores and totals, if only these are wrong.
+#[tactic(auto, using(crate::proofs::Keeping::renumbered_by))]
 fn sheet_with_numbers(
     alloc: Global,
-    written: &[u8],
-    right: &[Numbers],
-) -> Result<Option<Vec<u8>>, AllocError> {
-    let Ok(mut game) = game_from(alloc, written)? else {
+    text: &[u8],
+    alone: &Option<NumbersAlone>,
+) -> Result<Option<Vec<u8>>, AllocError>
+    ensures { IfOk result (λ made. IfSome made (λ t. IsRenumbered text.now alone.now t.items)) }
+{
+    let Some(alone) = alone else {
         return Ok(None);
     };
-    renumber(&mut game.events, right);
-    let mut text = Vec::new(alloc);
-    push_with_numbers(&mut text, written, game.events.as_slice())?;
-    Ok(Some(text))
+    let Ok(mut game) = game_from(alloc, text)? else {
+        return Ok(None);
+    };
+    renumber(&mut game.events, alone.right.as_slice());
+    let made = text_with(alloc, text, game.events.as_slice())?;
+    Ok(Some(made))
 }
 
-/// The text of the sheet that is to be written; `None` if there is none.
-fn chosen_sheet(
+/// The text that a choice makes of a sheet; `None` if it makes none, or if that cannot be written.
+fn text_by(
     alloc: Global,
-    case: &Case,
-    faulty: &Faulty,
-) -> Result<Option<Vec<u8>>, AllocError> {
-    match (choice_of(faulty), &faulty.alone) {
-        (Choice::Clear(repair), _) => sheet_with(alloc, case, repair),
-        (Choice::Sheet(repair), _) => sheet_of(alloc, case, repair),
-        (Choice::Numbers, Some(alone)) => {
-            sheet_with_numbers(alloc, case.text.as_slice(), alone.right.as_slice())
-        }
-        _ => Ok(None),
+    text: &[u8],
+    players: &Players,
+    alone: &Option<NumbersAlone>,
+    choice: Choice<'_>,
+) -> Result<Option<Vec<u8>>, AllocError>
+    ensures { IfOk result (λ made. IfSome made (λ t. IsTextBy text.now players.now alone.now choice.entry t.items)) }
+{
+    match choice {
+        Choice::Clear(repair) => sheet_with(alloc, text, players, repair),
+        Choice::Sheet(repair) => sheet_of(alloc, text, players, repair),
+        Choice::Numbers => sheet_with_numbers(alloc, text, alone),
+        Choice::None
+        | Choice::Open
+        | Choice::Pair
+        | Choice::NearNumbers
+        | Choice::Close
+        | Choice::NearSheet => Ok(None),
     }
 }
 
-/// The text of the sheet of a case that is not a record, with the repair of its line that is to be chosen; `None` if there is none.
+/// The text of the sheet of a record by the choice among its repairs; `None` if there is none.
+#[tactic(auto, using(crate::proofs::Keeping::chosen_text))]
+fn chosen_sheet(
+    alloc: Global,
+    text: &[u8],
+    entry: &Entry,
+    faulty: &Faulty,
+) -> Result<Option<Vec<u8>>, AllocError>
+    ensures { IfOk result (λ made. IfSome made (λ t. IsChosenText text.now entry.now.record.players faulty.now t.items)) }
+{
+    let choice = choice_of(faulty);
+    text_by(alloc, text, &entry.record.players, &faulty.alone, choice)
+}
+
+/// The text of a sheet that is not a record, by the choice among the slips of its bad line; `None` if there is none.
+#[tactic(auto, using(crate::proofs::Keeping::line_text))]
 fn sheet_of_line(
     alloc: Global,
-    case: &Case,
+    text: &[u8],
     repairs: &LineRepairs,
-) -> Result<Option<Vec<u8>>, AllocError> {
+) -> Result<Option<Vec<u8>>, AllocError>
+    ensures { IfOk result (λ made. IfSome made (λ t. IsLineText text.now repairs.now t.items)) }
+{
     let Choice::Sheet(repair) = choice_of_line(repairs) else {
         return Ok(None);
     };
-    let text = case.text.as_slice();
     let right = repair.right.as_slice();
     let players = Players::unnamed(alloc);
     let made = sheet_without(alloc, text, &players, &repair.slip, right)?;
     Ok(Some(made))
+}
+
+/// The text of the sheet of a case with an illegal record; `None` if there is none.
+fn sheet_of_read(alloc: Global, case: &Case, faulty: &Faulty) -> Result<Option<Vec<u8>>, AllocError>
+    ensures { IfOk result (λ made. IfSome made (λ t. IsTextOfRead case.now.text.items case.now.read faulty.now t.items)) }
+{
+    let Ok(entry) = &case.read else {
+        return Ok(None);
+    };
+    let made = chosen_sheet(alloc, case.text.as_slice(), entry, faulty)?;
+    Ok(made)
 }
 
 /// The text of the sheet that is to be written for an answer; `None` if there is none.
@@ -98,10 +152,15 @@ pub(crate) fn sheet_to_keep(
     alloc: Global,
     case: &Case,
     answer: &RepairAnswer,
-) -> Result<Option<Vec<u8>>, AllocError> {
+) -> Result<Option<Vec<u8>>, AllocError>
+    ensures { IfOk result (λ made. IfSome made (λ t. IsRepairedText case.now answer.now.faulty answer.now.of_line t.items)) }
+{
     match (&answer.faulty, &answer.of_line) {
-        (Some(faulty), _) => chosen_sheet(alloc, case, faulty),
-        (None, Some(repairs)) => sheet_of_line(alloc, case, repairs),
+        (Some(faulty), _) => sheet_of_read(alloc, case, faulty),
+        (None, Some(repairs)) => {
+            let made = sheet_of_line(alloc, case.text.as_slice(), repairs)?;
+            Ok(made)
+        }
         (None, None) => Ok(None),
     }
 }

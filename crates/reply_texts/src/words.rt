@@ -1,12 +1,16 @@
 //! Replies in words for people.
+ghost use Rattle.std.specs.Prelude.{IfOk};
+ghost use Rattle.reply_texts.specs.Words.{IsInWords};
 
 use crate::audits::audit_words;
 use crate::bodies::Body;
 use crate::compared::compared_words;
+use crate::drafted::{filled_words, next_words};
 use crate::explained::explained_words;
 use crate::made::{annotated_words, paged_words};
 use crate::objects::as_object;
 use crate::repaired::repaired_words;
+use crate::ruled::ruled_words;
 use serve_answers::{Printed, Reply};
 use std::alloc::{AllocError, Global};
 
@@ -26,7 +30,9 @@ fn object_alone(alloc: Global, reply: &Reply) -> Result<Printed, AllocError> {
 /// # Errors
 ///
 /// It fails only if memory is refused.
-pub fn in_words(alloc: Global, reply: &Reply) -> Result<Printed, AllocError> {
+pub fn in_words(alloc: Global, reply: &Reply) -> Result<Printed, AllocError>
+    ensures { IfOk result (IsInWords reply.now) }
+{
     match reply {
         Reply::Explained(explained) => explained_words(alloc, explained),
         Reply::Audited(sheet) => audit_words(alloc, sheet),
@@ -34,10 +40,13 @@ pub fn in_words(alloc: Global, reply: &Reply) -> Result<Printed, AllocError> {
         Reply::Annotated(sheet) => annotated_words(alloc, sheet),
         Reply::Compared(found) => compared_words(alloc, found),
         Reply::Repaired(repaired) => repaired_words(alloc, repaired),
+        Reply::Ruled(ruled) => ruled_words(alloc, ruled),
+        Reply::Filled(sheet) => filled_words(alloc, sheet),
+        Reply::Next(found) => next_words(alloc, found),
         Reply::Judged(_)
         | Reply::Boarded(_)
         | Reply::Found(_)
-        | Reply::Ruled(_)
+        | Reply::Checked(_)
         | Reply::Tidied(_) => object_alone(alloc, reply),
     }
 }

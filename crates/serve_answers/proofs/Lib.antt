@@ -3,6 +3,7 @@ pub mod Explaining
 pub mod Paging
 pub mod Repairing
 pub mod Comparing
-pub mod PlainLaws
 pub mod PlayLaws
 pub mod TidyLaws
+pub mod Boarding
+pub mod Drafting

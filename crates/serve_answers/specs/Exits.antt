@@ -10,6 +10,10 @@ use Rattle.game_answers.specs.declared.boards.ShownBoard.{ShownBoard}
 use Rattle.game_answers.specs.declared.tops.FoundPlays.{FoundPlays}
 use Rattle.game_answers.specs.Tops.{verdict_of}
 use Rattle.comparison_answers.specs.Exits.{exit_of_agreement}
+use Rattle.draft_answers.specs.declared.faults.DraftFault.{DraftFault}
+use Rattle.draft_answers.specs.declared.filled.FilledDraft.{FilledDraft}
+use Rattle.draft_answers.specs.declared.next.DraftNext.{DraftNext}
+use Rattle.game_rows.specs.declared.refusals.Refusal.{Refusal}
 use Rattle.serve_answers.specs.declared.compared.SheetsFound.{SheetsFound}
 use Rattle.serve_answers.specs.declared.compared.SheetsFound.TheVariants as sheets
 use Rattle.serve_answers.specs.declared.words.Ruled.{Ruled}
@@ -45,6 +49,20 @@ status_of_compared (sheets.Both both) = status_of (exit_of_agreement both.answer
 status_of_compared (sheets.FirstBad why) = status_of exit.BadInput
 status_of_compared (sheets.SecondBad why) = status_of exit.BadInput
 
+-- after a draft that is filled: as after an audit
+abbrev pub status_of_filled : Result FilledDraft DraftFault → ℕ
+status_of_filled (Ok f) = audit_status f.answer.audit.wrong.items f.answer.audit.entry.finding
+status_of_filled (Err fault) = status_of exit.BadInput
+
+-- after what the next line of a draft is about: 1 if the rules refuse a line with any numbers
+abbrev pub status_by_stop : Option Refusal → ℕ
+status_by_stop None = status_of exit.Fine
+status_by_stop (Some refusal) = status_of exit.Illegal
+
+abbrev pub status_of_next : Result DraftNext DraftFault → ℕ
+status_of_next (Ok d) = status_by_stop d.stopped
+status_of_next (Err fault) = status_of exit.BadInput
+
 -- after a reply
 abbrev pub status_of_reply : Reply → ℕ
 status_of_reply (reply.Judged sheet) = status_of_refused (λ game. status_of (exit_of game.verdict)) sheet.found
@@ -53,8 +71,11 @@ status_of_reply (reply.Audited sheet) = status_of_refused (λ answer. audit_stat
 status_of_reply (reply.Boarded sheet) = status_of_refused status_of_board sheet.found
 status_of_reply (reply.Found found) = status_of_refused status_of_plays found
 status_of_reply (reply.Ruled ruled) = status_of_ruled ruled
+status_of_reply (reply.Checked many) = status_of exit.Fine
 status_of_reply (reply.Tidied d) = status_of (exit_of d.verdict)
 status_of_reply (reply.Paged x) = status_of (explain_exit x.case.read None)
 status_of_reply (reply.Compared found) = status_of_compared found
 status_of_reply (reply.Repaired x) = status_of (explain_exit x.case.read None)
 status_of_reply (reply.Annotated x) = status_of (explain_exit x.case.read None)
+status_of_reply (reply.Filled sheet) = status_of_filled sheet.found
+status_of_reply (reply.Next found) = status_of_next found

@@ -18,19 +18,14 @@ use Rattle.explanations.specs.declared.explaining.Explanation.{Explanation}
 use Rattle.case_explanations.specs.Explaining.{IsExplanation}
 use Rattle.record_repairs.specs.declared.repair.Repair.{Repair}
 use Rattle.repair_answers.specs.Amounts.{IsAmount}
-use Rattle.repair_answers.specs.Likely.{IsLikelyOfCase}
-use Rattle.repair_answers.specs.declared.likely.Likely.{Likely}
+use Rattle.page_answers.specs.Pages.{IsLikelyAsked}
+use Rattle.unread_lines.specs.Lines.{unread_of}
 use Rattle.serve_answers.specs.declared.explained.ExplainedCase.{ExplainedCase}
 
 -- what explains the record that was read, or its event on a line or after it; a text that is not a record has nothing that does
 abbrev pub IsCaseExplanation : Rules → (list : List (List ℕ)) → Result Entry ReadFault → (line : Option ℕ) → Option Explanation → Type 0
 IsCaseExplanation rules list (Ok entry) line x = IsExplanation rules list entry line x
 IsCaseExplanation rules list (Err fault) line x = x ≡ None
-
--- the likely repair of the case of a text, if it is asked for
-abbrev pub IsLikelyAsked : (asked : Bool) → Rules → (list : List (List ℕ)) → (text : List ℕ) → Result Entry ReadFault → Option Likely → Type 0
-IsLikelyAsked true rules list text read likely = IsLikelyOfCase rules list text read likely
-IsLikelyAsked false rules list text read likely = likely ≡ None
 
 -- ---- the numbers of a record without a likely repair
 
@@ -68,7 +63,7 @@ IsWrongAsked false rules list text read wrong = wrong ≡ None
 -- ---- the whole
 
 -- a case with what explains it or one of its lines, its likely repair if that is asked for the record as a whole, and what is said of its numbers if
--- that is asked for and there is none
+-- that is asked for and there is none; and its lines that are not read
 pub record Explains (rules : Rules) (list : List (List ℕ)) (case : Case) (line : Option ℕ) (likely lead : Bool) (x : ExplainedCase) : Type 0 where
   pub of_case : x.case ≡ case
   pub on_line : x.line ≡ line
@@ -76,6 +71,7 @@ pub record Explains (rules : Rules) (list : List (List ℕ)) (case : Case) (line
   pub repair : IsLikelyAsked (likely && is_none line) rules list case.text.items case.read x.likely
   pub amount : IsAmountAsked (lead && is_none line && is_none x.likely) rules list case.read x.amount
   pub numbers : (text : List ℕ) → IsCaseOf rules list text case → IsWrongAsked (lead && is_none line && is_none x.likely) rules list text case.read x.wrong
+  pub lines : x.unread.items ≡ unread_of x.case.text.items
 
 -- the same for the case of a text
 pub record IsExplainedCase (rules : Rules) (list : List (List ℕ)) (text : List ℕ) (line : Option ℕ) (likely lead : Bool) (x : ExplainedCase) : Type 0 where
@@ -85,3 +81,4 @@ pub record IsExplainedCase (rules : Rules) (list : List (List ℕ)) (text : List
   pub repair : IsLikelyAsked (likely && is_none line) rules list text x.case.read x.likely
   pub amount : IsAmountAsked (lead && is_none line && is_none x.likely) rules list x.case.read x.amount
   pub numbers : IsWrongAsked (lead && is_none line && is_none x.likely) rules list text x.case.read x.wrong
+  pub lines : x.unread.items ≡ unread_of x.case.text.items

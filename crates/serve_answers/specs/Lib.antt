@@ -1,8 +1,8 @@
 pub mod Given
-pub mod PlainGames
 pub mod Annotated
 pub mod Audited
 pub mod Compared
+pub mod Drafted
 pub mod Explained
 pub mod ReadSheets
 pub mod Repaired

@@ -1,25 +1,16 @@
 -- What is found of a record, with its lines that are not read.
-use Rattle.std.specs.Prelude.{◌≡◌, ℕ, Bool, true, false, List, Option, Result}
+use Rattle.std.specs.Prelude.{◌≡◌, ℕ, Bool, List, Option}
 use Rattle.ref_tiles.specs.declared.rulebook.Rules.{Rules}
-use Rattle.call_stages.specs.declared.decisions.Decision.{Decision}
-use Rattle.engine.specs.declared.judging.Judging.{Judging}
 use Rattle.game_answers.specs.Boards.{IsBoardOf}
-use Rattle.game_answers.specs.declared.games.JudgedGame.{JudgedGame}
 use Rattle.game_answers.specs.Games.{IsJudgedGameOf}
 use Rattle.unread_lines.specs.Lines.{unread_of}
 use Rattle.serve_answers.specs.Given.{read_of, judging_by}
-use Rattle.serve_answers.specs.PlainGames.{IsPlainGameOf}
 use Rattle.serve_answers.specs.declared.read_sheets.JudgedSheet.{JudgedSheet}
 use Rattle.serve_answers.specs.declared.read_sheets.ShownSheet.{ShownSheet}
 
--- the judged game of a text, with or without answers on its events
-abbrev pub IsJudgedWith : (best : Bool) → (question : Judging) → Rules → (list : List (List ℕ)) → (text : List ℕ) → Result JudgedGame Decision → Type 0
-IsJudgedWith true question rules list text x = IsJudgedGameOf question rules list text x
-IsJudgedWith false question rules list text x = IsPlainGameOf question rules list text x
-
--- the same with the lines of the game that are not read
+-- the judged game of a text, with or without answers on its events, and the lines of the text that are not read
 pub record IsJudgedSheet (best settle : Bool) (rules : Rules) (list : List (List ℕ)) (game : List ℕ) (sheet : JudgedSheet) : Type 0 where
-  pub judged : IsJudgedWith best (judging_by settle) rules list (read_of game) sheet.found
+  pub judged : IsJudgedGameOf best (judging_by settle) rules list (read_of game) sheet.found
   pub lines : sheet.unread.items ≡ unread_of game
 
 -- the board of a game, before a line if one is named, with its lines that are not read

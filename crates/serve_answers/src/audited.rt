@@ -1,8 +1,8 @@
-//! The audit of a sheet, and whether its correction is requested.
+//! The audit of a sheet, whether its correction is requested, and its lines that are not read.
 ghost use Rattle.std.specs.Prelude.{◌≡◌, IfOk};
 ghost use Rattle.lex_check.specs.Pairs.{list_in};
 ghost use Rattle.serve_answers.specs.Audited.{IsAuditedSheet};
-ghost use Rattle.serve_answers.specs.Given.{FailsForMemoryAlone, read_of};
+ghost use Rattle.serve_answers.specs.Given.{FailsForMemoryAlone};
 
 use crate::games::audited;
 use audit_lines::AuditAnswer;
@@ -10,6 +10,7 @@ use call_stages::{Decision, RunFault};
 use lex_check::Checked;
 use ref_tiles::Rules;
 use std::alloc::Global;
+use unread_lines::{UnreadLine, unread_lines};
 
 /// The audit of a sheet, and whether its correction is requested.
 #[derive(Drop)]
@@ -18,6 +19,8 @@ pub struct AuditedSheet {
     pub found: Result<AuditAnswer, Decision>,
     /// Whether the corrected record is requested.
     pub corrected: bool,
+    /// The lines of the sheet that are not read although they look like events.
+    pub unread: Vec<UnreadLine>,
 }
 
 /// The audit of a sheet: what `audit` finds.
@@ -28,9 +31,14 @@ pub fn audited_sheet(
     game: &[u8],
     corrected: bool,
 ) -> Result<AuditedSheet, RunFault>
-    ensures audited { IfOk result (IsAuditedSheet rules.now (list_in pair.now) (read_of game.now) corrected) }
+    ensures audited { IfOk result (IsAuditedSheet rules.now (list_in pair.now) game.now corrected) }
     ensures memory { FailsForMemoryAlone result }
 {
     let found = audited(alloc, rules, pair, game)?;
-    Ok(AuditedSheet { found, corrected })
+    let unread = unread_lines(alloc, game)?;
+    Ok(AuditedSheet {
+        found,
+        corrected,
+        unread,
+    })
 }

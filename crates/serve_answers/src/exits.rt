@@ -2,7 +2,7 @@
 ghost use Rattle.std.specs.Prelude.{◌≡◌};
 ghost use Rattle.exit_statuses.specs.Exits.{exit_of, status_of};
 ghost use Rattle.exit_statuses.specs.Audits.{audit_status};
-ghost use Rattle.serve_answers.specs.Exits.{status_of_refused, status_of_board, status_of_plays, status_of_ruled, status_of_compared, status_of_reply};
+ghost use Rattle.serve_answers.specs.Exits.{status_of_refused, status_of_board, status_of_plays, status_of_ruled, status_of_compared, status_of_filled, status_by_stop, status_of_next, status_of_reply};
 
 use crate::compared::SheetsFound;
 use crate::replies::Reply;
@@ -10,8 +10,10 @@ use crate::words::Ruled;
 use audit_lines::AuditAnswer;
 use call_stages::{Decision, Verdict};
 use comparison_answers::exit_of_agreement;
+use draft_answers::{DraftFault, DraftNext, FilledDraft};
 use exit_statuses::{Exit, exit_of_audit, exit_of_case};
 use game_answers::{FoundPlays, JudgedGame, ShownBoard};
+use game_rows::Refusal;
 
 /// How it ends after a judged game.
 fn exit_of_judged(found: &Result<JudgedGame, Decision>) -> Exit
@@ -75,6 +77,36 @@ fn exit_of_compared(found: &SheetsFound) -> Exit
     }
 }
 
+/// How it ends after a draft that is filled: as after an audit.
+fn exit_of_filled(found: &Result<FilledDraft, DraftFault>) -> Exit
+    ensures { status_of result ≡ status_of_filled found.now }
+{
+    match found {
+        Ok(draft) => exit_of_audit(&draft.answer.audit),
+        Err(_) => Exit::BadInput,
+    }
+}
+
+/// How it ends after what the next line of a draft is about, by the line that the rules refuse, if there is one.
+fn exit_by_stop(stopped: &Option<Refusal>) -> Exit
+    ensures { status_of result ≡ status_by_stop stopped.now }
+{
+    match stopped {
+        None => Exit::Fine,
+        Some(_) => Exit::Illegal,
+    }
+}
+
+/// How it ends after what the next line of a draft is about.
+fn exit_of_next(found: &Result<DraftNext, DraftFault>) -> Exit
+    ensures { status_of result ≡ status_of_next found.now }
+{
+    match found {
+        Ok(draft) => exit_by_stop(&draft.stopped),
+        Err(_) => Exit::BadInput,
+    }
+}
+
 /// How the program ends after a reply: by what was found, and by nothing else.
 pub fn exit_of_reply(reply: &Reply) -> Exit
     ensures { status_of result ≡ status_of_reply reply.now }
@@ -86,10 +118,13 @@ pub fn exit_of_reply(reply: &Reply) -> Exit
         Reply::Boarded(sheet) => exit_of_board(&sheet.found),
         Reply::Found(found) => exit_of_plays(found),
         Reply::Ruled(ruled) => exit_of_ruled(ruled),
+        Reply::Checked(_) => Exit::Fine,
         Reply::Tidied(decision) => Exit::from(decision.verdict),
         Reply::Paged(paged) => exit_of_case(&paged.case, None),
         Reply::Compared(found) => exit_of_compared(found),
         Reply::Repaired(repaired) => exit_of_case(&repaired.case, None),
         Reply::Annotated(sheet) => exit_of_case(&sheet.case, None),
+        Reply::Filled(sheet) => exit_of_filled(&sheet.found),
+        Reply::Next(found) => exit_of_next(found),
     }
 }

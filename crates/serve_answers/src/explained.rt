@@ -2,10 +2,11 @@
 ghost use Rattle.std.specs.Prelude.{◌≡◌, ◌&&◌, is_none, ℕ, List, IfOk, OnOk};
 ghost use Rattle.lex_check.specs.Pairs.{list_in};
 ghost use Rattle.game_case.specs.Explaining.{IsCaseOf, HasItsWalk};
-ghost use Rattle.serve_answers.specs.Explained.{has_wrong_total, IsLikelyAsked, IsAmountAsked, IsCaseExplanation, IsWrongAsked, Explains, IsExplainedCase};
+ghost use Rattle.page_answers.specs.Pages.{IsLikelyAsked};
+ghost use Rattle.serve_answers.specs.Explained.{has_wrong_total, IsAmountAsked, IsCaseExplanation, IsWrongAsked, Explains, IsExplainedCase};
 ghost use Rattle.serve_answers.specs.Given.{FailsForMemoryAlone, read_of};
 
-use crate::games::case_in;
+use crate::games::{case_in, unread_in};
 use audit_lines::audit_of_wrong;
 use call_stages::{GameFault, RunFault};
 use case_explanations::explain;
@@ -18,6 +19,7 @@ use record_repairs::Repair;
 use ref_tiles::Rules;
 use repair_answers::{Likely, amount_repair, likely_in_case};
 use std::alloc::{AllocError, Global};
+use unread_lines::UnreadLine;
 
 /// The case of a record with what explains it or one of its lines.
 #[derive(Drop)]
@@ -34,6 +36,8 @@ pub struct ExplainedCase {
     pub amount: Option<Repair>,
     /// The audit of the sheet, if it is requested, there is no likely repair, and a number is wrong.
     pub wrong: Option<Audit>,
+    /// The lines of the record that are not read although they look like events.
+    pub unread: Vec<UnreadLine>,
 }
 
 /// What explains a case, or one of its lines.
@@ -158,6 +162,7 @@ fn explained_of(
     let asked = is_lead_wanted(lead, line, &repair);
     let amount = amount_asked(alloc, rules, pair, &mut case, asked)?;
     let wrong = wrong_asked(alloc, rules, pair, &case, asked)?;
+    let unread = unread_in(alloc, &case)?;
     Ok(ExplainedCase {
         case,
         line,
@@ -165,6 +170,7 @@ fn explained_of(
         likely: repair,
         amount,
         wrong,
+        unread,
     })
 }
 

@@ -1,15 +1,14 @@
 //! What is found of a game whose record is given as a text.
-ghost use Rattle.std.specs.Prelude.{IfOk};
+ghost use Rattle.std.specs.Prelude.{◌≡◌, IfOk};
 ghost use Rattle.lex_check.specs.Pairs.{list_in};
 ghost use Rattle.audit_lines.specs.Answers.{IsAuditAnswerOf};
 ghost use Rattle.game_case.specs.Explaining.{IsCaseOf};
 ghost use Rattle.game_answers.specs.Boards.{IsBoardOf};
 ghost use Rattle.game_answers.specs.Games.{IsJudgedGameOf};
 ghost use Rattle.known_bests.specs.Known.{AreKnown};
-ghost use Rattle.serve_answers.specs.PlainGames.{IsPlainGameOf};
+ghost use Rattle.unread_lines.specs.Lines.{unread_of};
 ghost use Rattle.serve_answers.specs.Given.{FailsForMemoryAlone, read_of};
 
-use crate::plain_games::judge_plainly;
 use crate::records::GivenRecord;
 use audit_lines::{AuditAnswer, answer_audit};
 use call_stages::{Decision, RunFault};
@@ -19,9 +18,10 @@ use game_case::{Case, open_case};
 use known_bests::KnownBests;
 use lex_check::Checked;
 use ref_tiles::Rules;
-use std::alloc::Global;
+use std::alloc::{AllocError, Global};
+use unread_lines::{UnreadLine, unread_lines};
 
-/// The judged game of a record: what `judge --json` finds, with the best plays that are known.
+/// The judged game of a record: what `judge --json` finds, with the best plays that are known; with answers on its events only if `best` is true.
 #[tactic(auto, using(crate::proofs::Reading::means_read))]
 pub fn judged(
     alloc: Global,
@@ -29,31 +29,16 @@ pub fn judged(
     pair: &Checked<'_>,
     game: &[u8],
     question: Judging,
+    best: bool,
     known: &mut KnownBests,
 ) -> Result<Result<JudgedGame, Decision>, RunFault>
     requires { AreKnown rules.now (list_in pair.now) known.old }
     ensures known { AreKnown rules.now (list_in pair.now) known.new }
-    ensures judged { IfOk result (IsJudgedGameOf question rules.now (list_in pair.now) (read_of game.now)) }
+    ensures judged { IfOk result (IsJudgedGameOf best question rules.now (list_in pair.now) (read_of game.now)) }
     ensures memory { FailsForMemoryAlone result }
 {
     let mut input = GivenRecord::new(game);
-    judge_game_with(alloc, rules, pair, &mut input, question, known)
-}
-
-/// The same without answers on the events.
-#[tactic(auto, using(crate::proofs::Reading::means_read))]
-pub fn judged_plainly(
-    alloc: Global,
-    rules: &Rules,
-    pair: &Checked<'_>,
-    game: &[u8],
-    question: Judging,
-) -> Result<Result<JudgedGame, Decision>, RunFault>
-    ensures found { IfOk result (IsPlainGameOf question rules.now (list_in pair.now) (read_of game.now)) }
-    ensures memory { FailsForMemoryAlone result }
-{
-    let mut input = GivenRecord::new(game);
-    judge_plainly(alloc, rules, pair, &mut input, question)
+    judge_game_with(alloc, rules, pair, &mut input, question, best, known)
 }
 
 /// The audit of a sheet: what `audit --json` finds.
@@ -99,4 +84,12 @@ pub fn board_in(
 {
     let mut input = GivenRecord::new(game);
     shown_board(alloc, rules, &mut input, line)
+}
+
+/// The lines of a case that are not read although they look like events.
+pub fn unread_in(alloc: Global, case: &Case) -> Result<Vec<UnreadLine>, AllocError>
+    ensures { IfOk result (λ lines. lines.items ≡ unread_of case.now.text.items) }
+{
+    let lines = unread_lines(alloc, case.text.as_slice())?;
+    Ok(lines)
 }

@@ -7,12 +7,12 @@
 mod annotated;
 mod audited;
 mod compared;
+mod drafted;
 mod exits;
 mod explained;
 mod games;
 mod judges;
 mod paged;
-mod plain_games;
 mod plays;
 mod printed;
 mod read_sheets;
@@ -24,11 +24,12 @@ mod words;
 
 pub use audited::AuditedSheet;
 pub use compared::{BadSheet, BothCompared, SheetsFound};
+pub use drafted::FilledSheet;
 pub use exits::exit_of_reply;
 pub use explained::ExplainedCase;
 pub use judges::Judges;
 pub use printed::Printed;
 pub use read_sheets::{JudgedSheet, ShownSheet};
 pub use repaired::RepairedCase;
-pub use replies::{Reply, reply_to};
+pub use replies::{Reply, board_reply, reply_to};
 pub use words::Ruled;

@@ -2,10 +2,10 @@
 ghost use Rattle.std.specs.Prelude.{◌≡◌, IfOk};
 ghost use Rattle.lex_check.specs.Pairs.{list_in};
 ghost use Rattle.known_bests.specs.Known.{AreKnown};
-ghost use Rattle.serve_answers.specs.Given.{FailsForMemoryAlone, judging_by, read_of};
-ghost use Rattle.serve_answers.specs.ReadSheets.{IsJudgedWith, IsJudgedSheet, IsShownSheet};
+ghost use Rattle.serve_answers.specs.Given.{FailsForMemoryAlone, judging_by};
+ghost use Rattle.serve_answers.specs.ReadSheets.{IsJudgedSheet, IsShownSheet};
 
-use crate::games::{board_in, judged, judged_plainly};
+use crate::games::{board_in, judged};
 use call_stages::{Decision, RunFault};
 use engine::Judging;
 use game_answers::{JudgedGame, ShownBoard};
@@ -44,29 +44,8 @@ fn judging_by(settle: bool) -> Judging
     }
 }
 
-/// The judged game of a record, with or without answers on its events.
-fn judged_by(
-    alloc: Global,
-    rules: &Rules,
-    pair: &Checked<'_>,
-    game: &[u8],
-    question: Judging,
-    best: bool,
-    known: &mut KnownBests,
-) -> Result<Result<JudgedGame, Decision>, RunFault>
-    requires { AreKnown rules.now (list_in pair.now) known.old }
-    ensures known { AreKnown rules.now (list_in pair.now) known.new }
-    ensures judged { IfOk result (IsJudgedWith best question rules.now (list_in pair.now) (read_of game.now)) }
-    ensures memory { FailsForMemoryAlone result }
-{
-    if best {
-        judged(alloc, rules, pair, game, question, known)
-    } else {
-        judged_plainly(alloc, rules, pair, game, question)
-    }
-}
-
-/// The judged game of a record: what `judge --json` finds. Best plays that are known are not looked for again.
+/// The judged game of a record: what `judge --json` finds, with answers on its events if `best` is true. Best plays that are known are not looked for
+/// again.
 pub fn judged_sheet(
     alloc: Global,
     rules: &Rules,
@@ -82,7 +61,7 @@ pub fn judged_sheet(
     ensures memory { FailsForMemoryAlone result }
 {
     let question = judging_by(settle);
-    let found = judged_by(alloc, rules, pair, game, question, best, known)?;
+    let found = judged(alloc, rules, pair, game, question, best, known)?;
     let unread = unread_lines(alloc, game)?;
     Ok(JudgedSheet { found, unread })
 }

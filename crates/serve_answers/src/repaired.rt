@@ -5,13 +5,14 @@ ghost use Rattle.game_case.specs.Explaining.{HasItsWalk};
 ghost use Rattle.serve_answers.specs.Given.{FailsForMemoryAlone, read_of};
 ghost use Rattle.serve_answers.specs.Repaired.{repairs_asked, Repairs, IsRepairedCase};
 
-use crate::games::case_in;
+use crate::games::{case_in, unread_in};
 use call_stages::RunFault;
 use game_case::Case;
 use lex_check::Checked;
 use ref_tiles::Rules;
 use repair_answers::{RepairAnswer, answer_repairs};
 use std::alloc::{AllocError, Global};
+use unread_lines::UnreadLine;
 
 /// How many repairs are given if no number is requested.
 const USUAL_REPAIRS: usize = 10;
@@ -25,6 +26,8 @@ pub struct RepairedCase {
     pub answer: RepairAnswer,
     /// Whether the repaired sheet is requested.
     pub asked: bool,
+    /// The lines of the sheet that are not read although they look like events.
+    pub unread: Vec<UnreadLine>,
 }
 
 /// How many repairs are requested.
@@ -52,10 +55,12 @@ fn repaired_of(
 {
     let mut case = case;
     let answer = answer_repairs(alloc, rules, pair, &mut case, most)?;
+    let unread = unread_in(alloc, &case)?;
     Ok(RepairedCase {
         case,
         answer,
         asked,
+        unread,
     })
 }
 

@@ -3,11 +3,13 @@ ghost use Rattle.std.specs.Prelude.{◌≡◌, IfOk};
 ghost use Rattle.lex_check.specs.Pairs.{list_in};
 ghost use Rattle.known_bests.specs.Known.{AreKnown};
 ghost use Rattle.serve_answers.specs.Given.{FailsForMemoryAlone};
-ghost use Rattle.serve_answers.specs.Replies.{IsReplyTo};
+ghost use Rattle.serve_requests.specs.declared.requests.Request.TheVariants as request;
+ghost use Rattle.serve_answers.specs.Replies.{IsReplyTo, IsReplyByRules};
 
 use crate::annotated::annotated;
 use crate::audited::{AuditedSheet, audited_sheet};
 use crate::compared::{SheetsFound, compared};
+use crate::drafted::{FilledSheet, filled_sheet};
 use crate::explained::{ExplainedCase, explained};
 use crate::judges::Judges;
 use crate::paged::paged;
@@ -18,9 +20,11 @@ use crate::tidying::tidied;
 use crate::words::{Ruled, rule_on_texts};
 use annotations::AnnotatedSheet;
 use call_stages::{Decision, RunFault};
+use draft_answers::{DraftFault, DraftNext, next_line};
 use game_answers::FoundPlays;
 use known_bests::KnownBests;
 use page_answers::PagedCase;
+use ref_tiles::Rules;
 use serve_requests::Request;
 use std::alloc::Global;
 
@@ -39,6 +43,8 @@ pub enum Reply {
     Found(Result<FoundPlays, Decision>),
     /// To one that names words: the ruling on them, if each is a word.
     Ruled(Option<Ruled>),
+    /// To one that asks how many words the list has: how many.
+    Checked(usize),
     /// To one that asks for the normal form of a record: that it is done, with the normal form.
     Tidied(Decision),
     /// To one that asks for a page: the case with what its page shows.
@@ -49,6 +55,31 @@ pub enum Reply {
     Repaired(RepairedCase),
     /// To one that asks for notes: the case with what is noted of it.
     Annotated(AnnotatedSheet),
+    /// To one that asks to fill a draft: what is found of it, with the record that it makes.
+    Filled(FilledSheet),
+    /// To one that asks what the next line of a draft is about: that, or the first fault of the draft.
+    Next(Result<DraftNext, DraftFault>),
+}
+
+/// The reply to a request for the board of a game, before a line if one is named. It depends only on the rules and on the request.
+///
+/// # Errors
+///
+/// `NoMemory` if memory was refused.
+#[tactic(auto, using(crate::proofs::Boarding::by_rules))]
+pub fn board_reply(
+    alloc: Global,
+    rules: &Rules,
+    game: &[u8],
+    line: Option<u32>,
+) -> Result<Reply, RunFault>
+    ensures reply { IfOk result (IsReplyByRules rules.now (request.Board game.entry line)) }
+    ensures memory { FailsForMemoryAlone result }
+{
+    match shown_sheet(alloc, rules, game, line) {
+        Ok(sheet) => Ok(Reply::Boarded(sheet)),
+        Err(fault) => Err(fault),
+    }
 }
 
 /// The reply to a request, by rules, the words of a pair and a maker. It depends only on these. Best plays that are proved for their board and their rack are
@@ -96,6 +127,7 @@ pub fn reply_to(
             pair.list(),
             words.as_slice(),
         )?)),
+        Request::Check => Ok(Reply::Checked(pair.list().len())),
         Request::Tidy { game } => Ok(Reply::Tidied(tidied(alloc, game)?)),
         Request::Page { game, likely } => Ok(Reply::Paged(paged(alloc, judges, game, *likely)?)),
         Request::Repair {
@@ -111,5 +143,9 @@ pub fn reply_to(
         Request::Annotate { game, number } => {
             Ok(Reply::Annotated(annotated(alloc, rules, pair, game, *number)?))
         }
+        Request::Fill { draft, filled } => {
+            Ok(Reply::Filled(filled_sheet(alloc, rules, pair, draft, *filled)?))
+        }
+        Request::Next { draft } => Ok(Reply::Next(next_line(alloc, rules, pair, draft)?)),
     }
 }

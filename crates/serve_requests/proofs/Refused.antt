@@ -25,7 +25,9 @@ by_letters x y =
     if x == 119 then command.Word else
     if x == 112 then command.Page else
     if x == 114 then command.Repair else
-    if x == 99 then command.Compare else
+    if x == 99 then (if y == 104 then command.Check else command.Compare) else
+    if x == 102 then command.Fill else
+    if x == 110 then command.Next else
     if y == 111 then command.Top else command.Tidy
 
 abbrev by_name : List ℕ → Command
@@ -39,11 +41,14 @@ by_its_name command.Audit = refl
 by_its_name command.Board = refl
 by_its_name command.Top = refl
 by_its_name command.Word = refl
+by_its_name command.Check = refl
 by_its_name command.Tidy = refl
 by_its_name command.Page = refl
 by_its_name command.Repair = refl
 by_its_name command.Compare = refl
 by_its_name command.Annotate = refl
+by_its_name command.Fill = refl
+by_its_name command.Next = refl
 
 same_command : (one other : Command) → name_of one ≡ name_of other → one ≡ other
 same_command one other is = sym (by_its_name one) ∙ ap by_name is ∙ by_its_name other
@@ -121,6 +126,7 @@ says_well d why (request.Top game line rack plays) says (inr (inr (inr (inr bad)
 says_well d why (request.Word words) says (inl (name, told, named, none)) = absurd (none words.items says.0)
 says_well d why (request.Word words) says (inr (inl bad)) = absurd (no_words d why words.items says.0 says.1 bad)
 says_well d why (request.Word words) says (inr (inr is)) = is
+says_well d why request.Check says bad = absurd bad
 says_well d why (request.Tidy game) says bad = absurd (no_game command.Tidy d why game.now says bad)
 says_well d why (request.Page game likely) says (inl bad) = absurd (no_game command.Page d why game.now says.0 bad)
 says_well d why (request.Page game likely) says (inr bad) = absurd (no_flag (codes "likely") true likely d why says.1 bad)
@@ -132,6 +138,9 @@ says_well d why (request.Compare first second merged) says (inr (inl bad)) = abs
 says_well d why (request.Compare first second merged) says (inr (inr bad)) = absurd (no_flag (codes "merged") false merged d why says.2 bad)
 says_well d why (request.Annotate game many) says (inl bad) = absurd (no_game command.Annotate d why game.now says.0 bad)
 says_well d why (request.Annotate game many) says (inr bad) = absurd (no_number 1 100 (codes "number") d why many says.1 bad)
+says_well d why (request.Fill draft filled) says (inl bad) = absurd (no_sheet (codes "draft") command.Fill d why draft.now says.0 bad)
+says_well d why (request.Fill draft filled) says (inr bad) = absurd (no_flag (codes "filled") false filled d why says.1 bad)
+says_well d why (request.Next draft) says bad = absurd (no_sheet (codes "draft") command.Next d why draft.now says bad)
 
 is_object : (d : Data) (name : List ℕ) → text_said (codes "do") d ≡ Some (Some name) → is_some (as_object d) ≡ false → ⊥
 is_object null name is none = said_is_some (Some (Some name)) name refl (sym is)

@@ -19,11 +19,14 @@ name_of command.Audit = codes "audit"
 name_of command.Board = codes "board"
 name_of command.Top = codes "top"
 name_of command.Word = codes "word"
+name_of command.Check = codes "check"
 name_of command.Tidy = codes "tidy"
 name_of command.Page = codes "page"
 name_of command.Repair = codes "repair"
 name_of command.Compare = codes "compare"
 name_of command.Annotate = codes "annotate"
+name_of command.Fill = codes "fill"
+name_of command.Next = codes "next"
 
 -- the text of a record, by its key
 abbrev pub IsSheet : (key : List ℕ) → Data → (text : List ℕ) → Type 0
@@ -59,11 +62,14 @@ command_of (request.Audit game corrected) = command.Audit
 command_of (request.Board game line) = command.Board
 command_of (request.Top game line rack plays) = command.Top
 command_of (request.Word words) = command.Word
+command_of request.Check = command.Check
 command_of (request.Tidy game) = command.Tidy
 command_of (request.Page game likely) = command.Page
 command_of (request.Repair game many repaired) = command.Repair
 command_of (request.Compare first second merged) = command.Compare
 command_of (request.Annotate game many) = command.Annotate
+command_of (request.Fill draft filled) = command.Fill
+command_of (request.Next draft) = command.Next
 
 -- the keys that a request for a command may have besides `id` and `do`
 abbrev pub keys_of : Command → List (List ℕ)
@@ -73,11 +79,14 @@ keys_of command.Audit = codes "game" ∷ codes "corrected" ∷ []
 keys_of command.Board = codes "game" ∷ codes "line" ∷ []
 keys_of command.Top = codes "game" ∷ codes "line" ∷ codes "rack" ∷ codes "number" ∷ []
 keys_of command.Word = codes "words" ∷ []
+keys_of command.Check = []
 keys_of command.Tidy = codes "game" ∷ []
 keys_of command.Page = codes "game" ∷ codes "likely" ∷ []
 keys_of command.Repair = codes "game" ∷ codes "number" ∷ codes "repaired" ∷ []
 keys_of command.Compare = codes "first" ∷ codes "second" ∷ codes "merged" ∷ []
 keys_of command.Annotate = codes "game" ∷ codes "number" ∷ []
+keys_of command.Fill = codes "draft" ∷ codes "filled" ∷ []
+keys_of command.Next = codes "draft" ∷ []
 
 abbrev pub IsAmong : (keys : List (List ℕ)) → (key : List ℕ) → Type 0
 IsAmong [] key = ⊥
@@ -115,11 +124,14 @@ Says d (request.Top game line rack plays) =
     IsGame d game.now × (line_said d ≡ Some line) × (text_said (codes "rack") d ≡ Some (option_copied rack)) × (number_asked d ≡ Some plays)
     × ((line ≡ None) → (rack ≡ None) → ⊥)
 Says d (request.Word words) = (value_at (codes "words") d ≡ Some (texts_data words.items)) × ((words.items ≡ []) → ⊥)
+Says d request.Check = Unit {0}
 Says d (request.Tidy game) = IsGame d game.now
 Says d (request.Page game likely) = IsGame d game.now × IsFlag (codes "likely") true d likely
 Says d (request.Repair game many repaired) = IsGame d game.now × (number_asked d ≡ Some many) × IsFlag (codes "repaired") false d repaired
 Says d (request.Compare first second merged) = IsSheet (codes "first") d first.now × IsSheet (codes "second") d second.now × IsFlag (codes "merged") false d merged
 Says d (request.Annotate game many) = IsGame d game.now × (number_asked d ≡ Some many)
+Says d (request.Fill draft filled) = IsSheet (codes "draft") d draft.now × IsFlag (codes "filled") false d filled
+Says d (request.Next draft) = IsSheet (codes "draft") d draft.now
 
 -- for this command, it says this
 abbrev pub IsRequestFor : Command → Data → Request → Type 0

@@ -14,3 +14,5 @@ request_of (task.Top line rack number) game = request.Top game line rack number
 request_of (task.Page likely) game = request.Page game likely
 request_of (task.Repair number repaired) game = request.Repair game number repaired
 request_of (task.Annotate number) game = request.Annotate game number
+request_of (task.Fill filled) game = request.Fill game filled
+request_of task.Next game = request.Next game

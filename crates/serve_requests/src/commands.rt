@@ -18,6 +18,8 @@ pub enum Command {
     Top,
     /// To rule on words.
     Word,
+    /// To say how many words the list has.
+    Check,
     /// To write the normal form of a record.
     Tidy,
     /// To write the page of a game.
@@ -28,6 +30,10 @@ pub enum Command {
     Compare,
     /// To write a sheet with notes.
     Annotate,
+    /// To fill a draft.
+    Fill,
+    /// To say what the next line of a draft is about.
+    Next,
 }
 
 impl Command {
@@ -43,11 +49,14 @@ impl Command {
             "board" => Some(Command::Board),
             "top" => Some(Command::Top),
             "word" => Some(Command::Word),
+            "check" => Some(Command::Check),
             "tidy" => Some(Command::Tidy),
             "page" => Some(Command::Page),
             "repair" => Some(Command::Repair),
             "compare" => Some(Command::Compare),
             "annotate" => Some(Command::Annotate),
+            "fill" => Some(Command::Fill),
+            "next" => Some(Command::Next),
             _ => None,
         }
     }
@@ -63,11 +72,14 @@ impl Command {
             Command::Board => "board",
             Command::Top => "top",
             Command::Word => "word",
+            Command::Check => "check",
             Command::Tidy => "tidy",
             Command::Page => "page",
             Command::Repair => "repair",
             Command::Compare => "compare",
             Command::Annotate => "annotate",
+            Command::Fill => "fill",
+            Command::Next => "next",
         }
     }
 
@@ -78,7 +90,12 @@ impl Command {
     {
         match key {
             "id" | "do" => true,
-            "game" => !matches!(self, Command::Word | Command::Compare),
+            "game" => !matches!(
+                self,
+                Command::Word | Command::Check | Command::Compare | Command::Fill | Command::Next
+            ),
+            "draft" => matches!(self, Command::Fill | Command::Next),
+            "filled" => self == Command::Fill,
             "first" | "second" | "merged" => self == Command::Compare,
             "settle" | "best" => self == Command::Judge,
             "corrected" => self == Command::Audit,

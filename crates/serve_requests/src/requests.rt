@@ -53,6 +53,8 @@ pub enum Request<'a> {
     Word {
         words: Vec<&'a str>,
     },
+    /// To say how many words the list has, whose lexicon the file is.
+    Check,
     /// To write the normal form of a record.
     Tidy {
         game: &'a [u8],
@@ -78,6 +80,15 @@ pub enum Request<'a> {
     Annotate {
         game: &'a [u8],
         number: Option<u32>,
+    },
+    /// To fill a draft, and to write the record that it makes if `filled` says so and it is to be written.
+    Fill {
+        draft: &'a [u8],
+        filled: bool,
+    },
+    /// To say what the next line of a draft is about.
+    Next {
+        draft: &'a [u8],
     },
 }
 
@@ -253,6 +264,26 @@ fn annotate_in<'a>(object: &'a Value) -> Result<Request<'a>, Refusal<'a>>
     })
 }
 
+/// A request to fill a draft.
+fn fill_in<'a>(object: &'a Value) -> Result<Request<'a>, Refusal<'a>>
+    ensures says { IfOk result (IsRequestFor command.Fill (view object.now)) }
+    ensures reason { IfErr result (IsBadFor command.Fill (view object.now)) }
+{
+    Ok(Request::Fill {
+        draft: sheet_in(object, Command::Fill, "draft")?,
+        filled: flag_in(object, "filled", false)?,
+    })
+}
+
+/// A request for what the next line of a draft is about.
+fn next_in<'a>(object: &'a Value) -> Result<Request<'a>, Refusal<'a>>
+    ensures says { IfOk result (IsRequestFor command.Next (view object.now)) }
+    ensures reason { IfErr result (IsBadFor command.Next (view object.now)) }
+{
+    let draft = sheet_in(object, Command::Next, "draft")?;
+    Ok(Request::Next { draft })
+}
+
 /// The request of an object that names a command.
 fn request_for<'a>(
     alloc: Global,
@@ -269,11 +300,14 @@ fn request_for<'a>(
         Command::Board => board_in(object),
         Command::Top => top_in(object),
         Command::Word => word_in(alloc, object),
+        Command::Check => Ok(Request::Check),
         Command::Tidy => tidy_in(object),
         Command::Page => page_in(object),
         Command::Repair => repair_in(object),
         Command::Compare => compare_in(object),
         Command::Annotate => annotate_in(object),
+        Command::Fill => fill_in(object),
+        Command::Next => next_in(object),
     }
 }
 

@@ -41,6 +41,12 @@ pub enum Task<'a> {
     Annotate {
         number: Option<u32>,
     },
+    /// [`Request::Fill`], of which the game is the draft.
+    Fill {
+        filled: bool,
+    },
+    /// [`Request::Next`], of which the game is the draft.
+    Next,
 }
 
 impl<'a> Task<'a> {
@@ -70,6 +76,11 @@ impl<'a> Task<'a> {
                 repaired,
             },
             Task::Annotate { number } => Request::Annotate { game, number },
+            Task::Fill { filled } => Request::Fill {
+                draft: game,
+                filled,
+            },
+            Task::Next => Request::Next { draft: game },
         }
     }
 }

@@ -21,7 +21,7 @@ fn has_letters_alone(text: &[u8]) -> bool
 }
 
 /// Whether a text is one word of 2 to 15 letters.
-fn is_word(text: &[u8]) -> bool
+pub fn is_word(text: &[u8]) -> bool
     ensures { result ≡ is_word text.now }
 {
     has_letters_alone(text) && 2 <= text.len() && text.len() <= 15

@@ -7,7 +7,7 @@ use Rattle.serve_answers.proofs.games.judged.Goals as goal
 
 pub returns-clause-judged : goal.returns-clause-judged
 returns-clause-judged c =
-    means_read _ _ c.args.game.now (IsJudgedGameOf c.args.question c.args.rules.now (list_in c.args.pair.now)) c.judge_game_with.result
+    means_read _ _ c.args.game.now (IsJudgedGameOf c.args.best c.args.question c.args.rules.now (list_in c.args.pair.now)) c.judge_game_with.result
     c.new-input.ensures c.judge_game_with.ensures.read
 
 pub returns-clause-memory : goal.returns-clause-memory

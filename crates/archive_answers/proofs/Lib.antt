@@ -1,0 +1,4 @@
+pub mod Greatest
+pub mod Keeping
+pub mod Telling
+pub mod Running

@@ -1,0 +1,7 @@
+pub mod Lines
+pub mod Words
+pub mod Sheets
+pub mod Games
+pub mod Exits
+pub mod Rows
+pub mod Runs

@@ -1,0 +1,96 @@
+//! An answer to an audit, of which only what is before a line is told.
+ghost use Rattle.std.specs.Prelude.{◌≡◌, IfOk};
+ghost use Rattle.std.specs.List.{filter};
+ghost use Rattle.draft_answers.specs.Filled.{is_before, is_told_before, IsCutAudit, IsCutAnswer};
+
+use audit_lines::{AuditAnswer, ToldNumber};
+use game_case::Audit;
+use game_sheets::WrongNumber;
+use std::alloc::{AllocError, Global};
+
+/// Whether a wrong number is on a line before this one.
+fn is_before(line: u32, number: &WrongNumber) -> bool
+    ensures { result ≡ is_before line number.now }
+{
+    match number {
+        WrongNumber::Score { line: own, .. } => *own < line,
+        WrongNumber::Sum { line: own, .. } => *own < line,
+        WrongNumber::Total { .. } => false,
+    }
+}
+
+/// The same of one that is told with its event.
+fn is_told_before(line: u32, number: &ToldNumber) -> bool
+    ensures { result ≡ is_told_before line number.now }
+{
+    match number {
+        ToldNumber::Score { line: own, .. } => *own < line,
+        ToldNumber::Sum { line: own, .. } => *own < line,
+        ToldNumber::Total { .. } => false,
+    }
+}
+
+/// The wrong numbers on lines before one.
+fn wrong_before(
+    alloc: Global,
+    line: u32,
+    numbers: &[WrongNumber],
+) -> Result<Vec<WrongNumber>, AllocError>
+    ensures { IfOk result (λ kept. kept.items ≡ filter (is_before line) numbers.now) }
+{
+    let mut kept = Vec::new(alloc);
+    for number in numbers {
+        if is_before(line, number) {
+            kept.push(*number)?;
+        }
+    }
+    Ok(kept)
+}
+
+/// Those that are told with their events.
+fn told_before(
+    alloc: Global,
+    line: u32,
+    numbers: &[ToldNumber],
+) -> Result<Vec<ToldNumber>, AllocError>
+    ensures { IfOk result (λ kept. kept.items ≡ filter (is_told_before line) numbers.now) }
+{
+    let mut kept = Vec::new(alloc);
+    for number in numbers {
+        if is_told_before(line, number) {
+            kept.push(*number)?;
+        }
+    }
+    Ok(kept)
+}
+
+/// An audit, of which only the wrong numbers before a line are told.
+fn audit_before(alloc: Global, line: u32, audit: Audit) -> Result<Audit, AllocError>
+    ensures { IfOk result (IsCutAudit line audit) }
+{
+    let wrong = wrong_before(alloc, line, audit.wrong.as_slice())?;
+    Ok(Audit {
+        text: audit.text,
+        wrong,
+        entry: audit.entry,
+        ahead: audit.ahead,
+        written: audit.written,
+    })
+}
+
+/// An answer to an audit, of which only what is before a line is told.
+pub(crate) fn answer_before(
+    alloc: Global,
+    line: u32,
+    answer: AuditAnswer,
+) -> Result<AuditAnswer, AllocError>
+    ensures { IfOk result (IsCutAnswer line answer) }
+{
+    let numbers = told_before(alloc, line, answer.numbers.as_slice())?;
+    let audit = audit_before(alloc, line, answer.audit)?;
+    Ok(AuditAnswer {
+        audit,
+        numbers,
+        amount: None,
+    })
+}

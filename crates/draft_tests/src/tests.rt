@@ -1,0 +1,3 @@
+//! Each module has the tables of one crate, each table shows one rule.
+
+mod drafts;

@@ -1,0 +1,4 @@
+pub mod Lacks
+pub mod Texts
+pub mod Drafts
+pub mod Laws

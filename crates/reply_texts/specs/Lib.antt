@@ -1,0 +1,3 @@
+pub mod Rulings
+pub mod Kept
+pub mod Words

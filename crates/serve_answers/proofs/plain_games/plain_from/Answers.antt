@@ -1,6 +1,0 @@
-use Rattle.std.proofs.Common.{subst}
-use Rattle.call_stages.specs.Stages.{IsRecordOf}
-use Rattle.serve_answers.proofs.plain_games.plain_from.Goals as goal
-
-pub returns : goal.returns
-returns c = (c.in-Ok.record, subst (IsRecordOf c.args.text.now) c.in-Ok.is c.in_ok-record.ensures, c.in_ok-judged.ensures)
