@@ -40,7 +40,9 @@ class Next:
 
     turn: Optional[str]
     is_over: bool
-    facts: list[dict[str, Any]]
+    out: Optional[str]
+    tiles: dict[str, int]
+    bag: int
 
 
 class Judge:
@@ -153,34 +155,31 @@ class Judge:
         return self._ask("tidy", game=game).text or ""
 
     def filled(self, draft: str) -> Filled:
-        """A draft with the numbers that are missing. The scores are those that the audit gives; a total is the total before it and the score."""
+        """A draft with the numbers that are missing, up to the line that the rules refuse."""
         holes = {number: fields.missing for number, line in enumerate(drafts.lines_of(draft), 1) if (fields := drafts.fields_of(line)) and fields.missing}
         if not holes:
             return Filled(draft, draft, 0)
-        zeros = _with_numbers(draft, {number: 0 for number, many in holes.items() if many == 2})
         try:
-            told = self._ask("audit", game=zeros)
-        except BadInput:
-            return self._known(draft, zeros, holes)
-        scores = {wrong["line"]: wrong["right"] for wrong in told["wrong"] if wrong["wrong"] == "score"}
-        right = {number: scores.get(number, 0) for number, many in holes.items() if many == 2}
-        return self._known(draft, _with_numbers(draft, right), holes)
-
-    def _known(self, draft: str, judged: str, holes: dict[int, int]) -> Filled:
-        """A draft with the numbers up to the line that is refused."""
-        refused = self.verdict(judged).get("line") or len(judged)
-        lines = drafts.lines_of(judged)[: refused - 1] + drafts.lines_of(draft)[refused - 1 :]
-        return Filled("\n".join(lines), judged, sum(many for number, many in holes.items() if number < refused))
+            told = self._ask("fill", draft=draft)
+        except BadInput as bad:
+            told = _why(bad)
+        put_in = {it["line"]: it for it in told.get("lines") or []}
+        lines = drafts.lines_of(draft)
+        whole = [_with_ends(line, put_in[number]) if number in put_in else line for number, line in enumerate(lines, 1)]
+        zeros = {number: 0 for number, many in holes.items() if many == 2 and number not in put_in}
+        refused = told.get("line") or len(lines) + 1
+        text = "\n".join(whole[: refused - 1] + lines[refused - 1 :])
+        return Filled(text, _with_numbers("\n".join(whole), zeros), sum(1 + it["score_put_in"] for number, it in put_in.items() if number < refused))
 
     def next(self, game: str) -> Next:
-        """Whose turn it is. A pass of a player tells it: it stands, but for its total, or the program says that the game is over."""
-        faults = {}
-        for player in drafts.players_of(game):
-            told = self.verdict(drafts.with_line(game, f">{player.nick}: - +0 0"))
-            faults[player.nick] = None if told["verdict"] in ("legal", "unsettled") else (told.get("fault") or {}).get("name")
-        may = [nick for nick, fault in faults.items() if fault in (None, "WrongTotal")]
-        facts = self.line(game).get("facts") or []
-        return Next(may[0] if len(may) == 1 else None, all(fault == "GameOver" for fault in faults.values()), facts)
+        """What the next line is about; nothing is known of it after a text that is not a draft."""
+        try:
+            told = self._ask("next", draft=game)
+        except BadInput:
+            return Next(None, False, None, {}, 0)
+        nicks = [player["nick"] for player in told["players"]]
+        of = {seat: nick for seat, nick in enumerate(nicks, 1)}
+        return Next(of.get(told["turn"]), told["complete"], of.get(told["out"]), {player["nick"]: player["tiles"] for player in told["players"]}, told["bag"])
 
     def word(self, words: list[str]) -> Answer:
         """Whether words are acceptable."""
@@ -240,6 +239,12 @@ class Judge:
 def _why(bad: BadInput) -> Answer:
     """The object that says why there is no other answer."""
     return bad.answer if bad.answer is not None else Answer(verdict=str(bad), line=None, fault=None)
+
+
+def _with_ends(line: str, put_in: dict[str, Any]) -> str:
+    """A line with the numbers that are put in."""
+    numbers = [f"{put_in['score']:+d}"] if put_in["score_put_in"] else []
+    return " ".join([line.rstrip(), *numbers, str(put_in["total"])])
 
 
 def _with_numbers(draft: str, scores: dict[int, int]) -> str:
