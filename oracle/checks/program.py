@@ -1720,6 +1720,7 @@ def repairs_listed(run):
     Path(run.folder, "all").write_text("AT\nDT\nEAT\nOE\nRA\nWORD\n")
     run.row(["build", "all", "all.gad"], 0)
     numbers_alone(run, at)
+    long_sheet(run, at)
     eat = ">A: E 9F E.. +5 21\n"
     through_sheet(run, at, eat)
     other_list(run, at, eat)
@@ -1857,6 +1858,21 @@ def numbers_alone(run, at):
     """`repair` of a sheet on which only a score is wrong, for which no change of the play makes up: the sheet is written with the right one."""
     Path(run.folder, "scored").write_text(WORD.replace("+16 16", "+18 18") + at)
     run.row(["repair", "--repaired", "out", "all", "all.gad", "scored"], 1, None, wrote=(WORD + at).encode())
+
+
+def long_sheet(run, at):
+    """`repair` of a sheet of 1 MiB which its right numbers would make too long for a record, and of one that is a byte shorter."""
+    sheet = WORD.replace("+16 16", "+16 1") + at + "#note "
+    unlike, written = "not written: the repaired sheet would not read as the repaired record\n", "\nwritten: the sheet with its right numbers\n"
+    for spare, ends in ((0, unlike), (1, written)):
+        text = sheet + "x" * (1_048_576 - spare - len(sheet) - 1) + "\n"
+        Path(run.folder, "long").write_text(text)
+        Path(run.folder, "out").write_text("as it was")
+        done = subprocess.run([run.program, "repair", "--repaired", "out", "all", "all.gad", "long"], cwd=run.folder, capture_output=True, check=False)
+        told = done.stdout.decode()
+        run.expect(f"a sheet of 1 MiB without {spare} bytes told {told}", done.returncode == 1 and told.endswith(ends))
+        kept = text.replace("+16 1\n", "+16 16\n") if spare else "as it was"
+        run.expect(f"a sheet of 1 MiB without {spare} bytes written", Path(run.folder, "out").read_text() == kept)
 
 
 def other_list(run, at, eat):

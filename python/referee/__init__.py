@@ -21,19 +21,82 @@ import subprocess
 import threading
 import time
 from types import TracebackType
-from typing import Any, Optional, Union
+from typing import Any, Dict, List, Optional, Union
 
 __all__ = ["Answer", "BadInput", "BadRequest", "Broken", "Referee", "RefereeError", "TimedOut", "text_of"]
 
 Game = Union[str, bytes]
 Path = Union[str, "os.PathLike[str]"]
+Object = Dict[str, Any]
+Objects = List[Object]
 
 
 class Answer(dict[str, Any]):
-    """The object of an answer. Its keys are attributes too."""
+    """The object of an answer. Its keys are attributes too: those that the object of the command has."""
 
     status: int = 0
     text: Optional[str] = None
+
+    # all
+    verdict: str
+    line: Optional[int]
+    fault: Optional[Object]
+    unread_lines: Objects
+    ending: Optional[str]
+    players: Objects
+    # judge, top, board, word and check
+    events: Objects
+    rack: Optional[str]
+    plays: Objects
+    before: Optional[int]
+    rows: list[str]
+    off_board: Object
+    words: Any
+    # audit and fill
+    wrong: Objects
+    ahead: Optional[Object]
+    ahead_by_sheet: Optional[Object]
+    amount: Optional[Object]
+    put_in: Object
+    lines: Objects
+    amiss: Optional[str]
+    complete: bool
+    turn: Optional[int]
+    out: Optional[int]
+    bag: int
+    # explain
+    explained: Optional[int]
+    facts: Objects
+    play: Optional[Object]
+    board: Any
+    unknown_since: Optional[int]
+    likely: Optional[Object]
+    # repair
+    numbers_alone: Optional[Object]
+    repairs: Objects
+    pairs: Objects
+    chain: Optional[Object]
+    left: Any
+    tried: Any
+    untried: Optional[int]
+    numbers_alone_settled: Optional[bool]
+    sheet_slips: Objects
+    line_slips: Objects
+    # compare
+    differences: Objects
+    not_varied: int
+    choices: int
+    best: Optional[Object]
+    rivals: Objects
+    furthest: Optional[Object]
+    best_repair: Any
+    totals: Any
+    ahead_by_first: Optional[Object]
+    ahead_by_second: Optional[Object]
+    merged: Optional[str]
+    not_merged: Optional[str]
+    # no memory
+    file: Optional[str]
 
     def __getattr__(self, key: str) -> Any:
         try:

@@ -9,7 +9,7 @@ use command_line::PROGRAM;
 use devices::FromRead;
 use page_answers::Maker;
 use reply_calls::{PageMaker, Rendering};
-use reply_texts::{Body, as_object, each_in_words, in_words, refusal_object};
+use reply_texts::{each_in_words, in_object, in_words, refusal_object};
 use serve_answers::{Printed, Reply};
 use std::alloc::{AllocError, Global};
 use std::io::Read;
@@ -47,15 +47,11 @@ fn each_of(alloc: Global, found: &Result<Reply, Decision>) -> Result<Printed, Al
 }
 
 /// What was found, as an object.
-fn object_of(alloc: Global, found: &Result<Reply, Decision>) -> Result<Printed, AllocError> {
+fn object_of(alloc: Global, found: &Result<Reply, Decision>) -> Result<Printed, AllocError>
+    ensures { IfOk result (IsWrittenAs form.Object found.now) }
+{
     match found {
-        Ok(reply) => match as_object(alloc, reply)? {
-            Body::Object(report) | Body::Text(report) => Ok(Printed::report(report)),
-            Body::Both(report, text) => Ok(Printed {
-                report,
-                kept: Some(text),
-            }),
-        },
+        Ok(reply) => in_object(alloc, reply),
         Err(decision) => Ok(Printed::report(refusal_object(alloc, decision)?)),
     }
 }

@@ -1,79 +1,101 @@
-//! Verdicts as objects.
+//! Verdicts as trees.
+ghost use Rattle.std.specs.Prelude.{◌≡◌, IfOk};
+ghost use Rattle.json_trees.specs.Trees.{view};
+ghost use Rattle.answer_json.specs.Verdicts.{ending_value, ending_word, fault_line_value, fault_value, verdict_object, verdict_word};
 
-use crate::faults::FaultObject;
-use crate::lines::push_object;
+use crate::fault_trees::game_fault_tree;
 use call_stages::Verdict;
-use serde::Serialize;
+use json_trees::{Tree, count_tree, name_tree, null_tree, object};
 use std::alloc::{AllocError, Global};
 
-/// A verdict and nothing more.
-#[derive(Drop, Serialize)]
-struct VerdictObject {
-    verdict: &'static str,
-    line: Option<u32>,
-    fault: Option<FaultObject>,
-}
-
-/// A verdict with what goes with it.
-#[derive(Drop)]
-pub struct VerdictFields {
-    /// The verdict, as reports say it.
-    pub verdict: &'static str,
-    /// Whether a legal game has ended.
-    pub ending: Option<&'static str>,
-    /// The line of the fault.
-    pub line: Option<u32>,
-    /// The fault.
-    pub fault: Option<FaultObject>,
-}
-
-/// A verdict with only its name.
-fn bare(verdict: &'static str) -> VerdictFields {
-    VerdictFields {
-        verdict,
-        ending: None,
-        line: None,
-        fault: None,
-    }
-}
-
-/// The fields of a verdict.
-pub fn verdict_fields(alloc: Global, verdict: &Verdict) -> Result<VerdictFields, AllocError> {
+/// The name of a verdict.
+pub fn verdict_name(verdict: &Verdict) -> &'static str
+    ensures { result.now ≡ verdict_word verdict.now }
+{
     match verdict {
-        Verdict::Legal { complete } => Ok(VerdictFields {
-            verdict: "legal",
-            ending: Some(if *complete { "complete" } else { "unfinished" }),
-            line: None,
-            fault: None,
-        }),
-        Verdict::Illegal { line, fault } => Ok(VerdictFields {
-            verdict: "illegal",
-            ending: None,
-            line: Some(*line),
-            fault: Some(FaultObject::of_game(alloc, fault)?),
-        }),
-        Verdict::Unsettled => Ok(bare("unsettled")),
-        Verdict::Done => Ok(bare("ok")),
-        Verdict::BadList => Ok(bare("bad word list")),
-        Verdict::BadFile => Ok(bare("bad lexicon")),
-        Verdict::BadRecord => Ok(bare("bad record")),
-        Verdict::BadRack => Ok(bare("bad rack")),
-        Verdict::BadRules => Ok(bare("bad rules")),
-        Verdict::BadLine => Ok(bare("bad line")),
+        Verdict::Legal { .. } => "legal",
+        Verdict::Illegal { .. } => "illegal",
+        Verdict::Unsettled => "unsettled",
+        Verdict::Done => "ok",
+        Verdict::BadList => "bad word list",
+        Verdict::BadFile => "bad lexicon",
+        Verdict::BadRecord => "bad record",
+        Verdict::BadRack => "bad rack",
+        Verdict::BadRules => "bad rules",
+        Verdict::BadLine => "bad line",
     }
 }
 
-/// Appends a verdict and nothing more.
-pub fn push_verdict(
-    alloc: Global,
-    text: &mut Vec<u8>,
-    verdict: &Verdict,
-) -> Result<(), AllocError> {
-    let fields = verdict_fields(alloc, verdict)?;
-    let object = VerdictObject {
-        verdict: fields.verdict,
-        line: fields.line,
-        fault: fields.fault,
-    };
-    push_object(alloc, text, &object)
+/// Whether a game has ended.
+pub fn ending_name(complete: bool) -> &'static str
+    ensures { result.now ≡ ending_word complete }
+{
+    if complete { "complete" } else { "unfinished" }
+}
+
+/// Whether a legal game has ended; null for every other verdict.
+pub fn ending_tree(verdict: &Verdict) -> Tree
+    ensures { view result ≡ ending_value verdict.now }
+{
+    match verdict {
+        Verdict::Legal { complete } => name_tree(ending_name(*complete)),
+        Verdict::Illegal { .. }
+        | Verdict::Unsettled
+        | Verdict::Done
+        | Verdict::BadList
+        | Verdict::BadFile
+        | Verdict::BadRecord
+        | Verdict::BadRack
+        | Verdict::BadRules
+        | Verdict::BadLine => null_tree(),
+    }
+}
+
+/// The line of the fault of an illegal game; null for every other verdict.
+pub fn fault_line_tree(verdict: &Verdict) -> Tree
+    ensures { view result ≡ fault_line_value verdict.now }
+{
+    match verdict {
+        Verdict::Illegal { line, .. } => count_tree(*line),
+        Verdict::Legal { .. }
+        | Verdict::Unsettled
+        | Verdict::Done
+        | Verdict::BadList
+        | Verdict::BadFile
+        | Verdict::BadRecord
+        | Verdict::BadRack
+        | Verdict::BadRules
+        | Verdict::BadLine => null_tree(),
+    }
+}
+
+/// The fault of an illegal game; null for every other verdict.
+pub fn fault_tree(alloc: Global, verdict: &Verdict) -> Result<Tree, AllocError>
+    ensures { IfOk result (λ tree. view tree ≡ fault_value verdict.now) }
+{
+    match verdict {
+        Verdict::Illegal { fault, .. } => game_fault_tree(alloc, fault),
+        Verdict::Legal { .. }
+        | Verdict::Unsettled
+        | Verdict::Done
+        | Verdict::BadList
+        | Verdict::BadFile
+        | Verdict::BadRecord
+        | Verdict::BadRack
+        | Verdict::BadRules
+        | Verdict::BadLine => Ok(null_tree()),
+    }
+}
+
+/// A verdict and nothing more.
+pub fn verdict_tree(alloc: Global, verdict: &Verdict) -> Result<Tree, AllocError>
+    ensures { IfOk result (λ tree. view tree ≡ verdict_object verdict.now) }
+{
+    let fault = fault_tree(alloc, verdict)?;
+    let fields = vec![in alloc;
+        ("verdict", name_tree(verdict_name(verdict))),
+        ("line", fault_line_tree(verdict)),
+        ("fault", fault),
+    ]?;
+    Ok(object(fields))
 }

@@ -1,19 +1,21 @@
 -- The lines of a run over many games.
-use Rattle.std.specs.Prelude.{◌≡◌, ◌⊎◌, ⊤, ℕ, Bool, true, false, List, [], ◌∷◌, ◌++◌, is_some}
+use Rattle.std.specs.Prelude.{◌≡◌, ◌⊎◌, ℕ, Bool, true, false, List, [], ◌∷◌, ◌++◌, is_some}
 use Rattle.std.specs.Borrow.{Bor}
 use Rattle.archive_lines.specs.declared.answers.Unread.TheVariants as why
 use Rattle.archive_lines.specs.declared.fields.Fields.{Fields}
 use Rattle.archive_lines.specs.declared.pages.PageField.TheVariants as field
+use Rattle.archive_lines.specs.Objects.{line_object}
 use Rattle.archive_lines.specs.Tabs.{tab_line}
+use Rattle.json_trees.specs.Texts.{json_line}
 use Rattle.archive_answers.specs.declared.asked.Asked.{Asked}
 use Rattle.archive_answers.specs.declared.games.ArchivedGame.{ArchivedGame}
 use Rattle.archive_answers.specs.declared.runs.RunLines.{RunLines}
 use Rattle.archive_answers.specs.Exits.{EndsAfter}
 use Rattle.archive_answers.specs.Games.{IsUnreadGame, with_page}
 
--- a line of these fields: with tabs between them, or as an object, whose text is not defined
+-- a line of these fields: as an object, or with tabs between them
 abbrev pub IsLine : (json : Bool) → Fields → (line : List ℕ) → Type 0
-IsLine true f line = ⊤
+IsLine true f line = line ≡ json_line (line_object f)
 IsLine false f line = line ≡ tab_line f
 
 -- a run has told a game with these fields: the line is theirs, and the run ends as after the lines before and this one

@@ -9,7 +9,7 @@ ghost use Rattle.archive_answers.specs.Games.{TellsCase, IsToldGame, IsUnreadGam
 ghost use Rattle.archive_answers.specs.Runs.{IsLostGame};
 
 use crate::asked::Asked;
-use crate::likely::{likely_asked, likely_said, none_said};
+use crate::likely::{likely_said, none_said};
 use crate::lines::{case_fields, with_asked};
 use crate::sheets::{GameSheet, page_before, sheet_of};
 use crate::words::{RowWords, no_words, words_asked};
@@ -18,6 +18,7 @@ use call_stages::RunFault;
 use devices::Input;
 use game_case::{Case, open_case};
 use lex_check::Checked;
+use page_answers::likely_asked;
 use ref_tiles::Rules;
 use std::alloc::{AllocError, Global};
 
@@ -56,7 +57,7 @@ fn tell_case<'n>(
 {
     let mut case = case;
     let paged = asked.page.is_some();
-    let likely = likely_asked(alloc, rules, pair, asked.likely, &mut case)?;
+    let likely = likely_asked(alloc, rules, pair, &mut case, asked.likely)?;
     let plain = case_fields(alloc, name, &case)?;
     let said = likely_said(alloc, asked.likely, &case, &likely)?;
     let words = words_asked(alloc, paged, &case)?;

@@ -1,36 +1,14 @@
-//! The likely repair of a game, and what its line says of it.
-ghost use Rattle.std.specs.Prelude.{◌≡◌, true, false, IfOk, OnOk};
-ghost use Rattle.lex_check.specs.Pairs.{list_in};
-ghost use Rattle.page_answers.specs.Pages.{IsLikelyAsked};
+//! What the line of a game says of its likely repair.
+ghost use Rattle.std.specs.Prelude.{true, false, IfOk};
 ghost use Rattle.archive_answers.specs.Lines.{has_repair, SaysChange, SaysLikely};
 
 use archive_lines::LikelyFields;
 use game_case::Case;
 use gcg_read::Record;
-use lex_check::Checked;
 use name_texts::Encoding;
-use ref_tiles::Rules;
-use repair_answers::{Likely, likely_in_case};
+use repair_answers::Likely;
 use repair_lines::{push_likely_change, push_likely_numbers};
 use std::alloc::{AllocError, Global};
-
-/// The likely repair of a case, if it is asked for. Afterwards the case is as it was.
-pub(crate) fn likely_asked(
-    alloc: Global,
-    rules: &Rules,
-    pair: &Checked<'_>,
-    asked: bool,
-    case: &mut Case,
-) -> Result<Option<Likely>, AllocError>
-    ensures likely { IfOk result (IsLikelyAsked asked rules.now (list_in pair.now) case.old.text.items case.old.read) }
-    ensures same { OnOk result (case.new ≡ case.old) }
-{
-    if asked {
-        likely_in_case(alloc, rules, pair, case)
-    } else {
-        Ok(None)
-    }
-}
 
 /// What a line says of a repair of a record. Names are read by the encoding of the record.
 fn words_of(

@@ -4,5 +4,6 @@ pub mod Leads
 pub mod Players
 pub mod Pages
 pub mod Tabs
+pub mod Objects
 pub mod Said
 pub mod Laws

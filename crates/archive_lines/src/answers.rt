@@ -3,7 +3,6 @@ ghost use Rattle.std.specs.Prelude.{◌≡◌};
 ghost use Rattle.archive_lines.specs.Answers.{answer_of, ending_in};
 
 use game_case::Finding;
-use serde::{Described, Serialize, Serializer};
 
 /// What a line answers about a game.
 #[derive(Clone, Copy, Debug, PartialEq, Eq)]
@@ -53,14 +52,6 @@ impl Answer {
     }
 }
 
-impl Described for Answer {}
-
-impl Serialize for Answer {
-    fn serialize<S: Serializer>(&self, out: &mut S) -> Result<(), S::Error> {
-        self.name().serialize(out)
-    }
-}
-
 /// Whether a legal game has ended.
 #[derive(Clone, Copy, Debug, PartialEq, Eq)]
 pub enum Ending {
@@ -81,14 +72,6 @@ impl Ending {
             Ending::Complete => "complete",
             Ending::Unfinished => "unfinished",
         }
-    }
-}
-
-impl Described for Ending {}
-
-impl Serialize for Ending {
-    fn serialize<S: Serializer>(&self, out: &mut S) -> Result<(), S::Error> {
-        self.name().serialize(out)
     }
 }
 

@@ -11,12 +11,11 @@ use crate::players::{nick_of, total_of};
 use game_case::Entry;
 use gcg_read::{ReadFault, Seat};
 use name_texts::Encoding;
-use serde::Serialize;
 use std::alloc::{AllocError, Global};
 use std::borrow::CowStr;
 
 /// What a line says of a game, in the order in which it says it. What is not known, or does not apply, is `None`.
-#[derive(Drop, Serialize)]
+#[derive(Drop)]
 pub struct Fields<'a> {
     /// The name of the file, as it was given.
     pub name: &'a str,
@@ -41,10 +40,8 @@ pub struct Fields<'a> {
     /// How many plays stand with a word that is not listed.
     pub unlisted: Option<usize>,
     /// The page of the game; none if no pages are made, and then no line has the field.
-    #[serde(skip_serializing_if = "Option::is_none")]
     pub page: Option<PageField>,
     /// The likely repair of the game; none if no repairs are looked for, and then no line has its fields.
-    #[serde(skip_serializing_if = "Option::is_none")]
     pub likely: Option<LikelyFields>,
     /// The name of the fault of a game or a record, without a number or a tile after it. Only the JSON object has it.
     pub fault_name: Option<CowStr<'a, Global>>,

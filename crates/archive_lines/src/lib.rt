@@ -1,7 +1,7 @@
 //! The lines of an archive: what one says of a game, as plain data, and the two forms in which it is written.
 //!
 //! [`Fields`] is what a line says. [`push_tab_line`] writes it as fields separated by tabs, [`push_json_line`] as a JSON object with the same fields
-//! by name. A line has the field of the page of its game only if pages are made, and the two fields of its likely repair only if repairs are looked
+//! by name, which a reader of JSON has again. A line has the field of the page of its game only if pages are made, and the two fields of its likely repair only if repairs are looked
 //! for. The last field says how many lines of the record are not read. [`law_of_tab_lines`] says that a line has exactly its fields, and [`LineRead`] is what its reader has.
 #![tactic(auto)]
 

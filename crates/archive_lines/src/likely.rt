@@ -1,9 +1,7 @@
 //! What a line says of the likely repair of a game.
 
-use serde::Serialize;
-
 /// What a line says of the likely repair of a game, if repairs are looked for.
-#[derive(Drop, Serialize)]
+#[derive(Drop)]
 pub struct LikelyFields {
     /// The change, in words; none if the game is not illegal, or if no repair is likelier than all others by far.
     pub change: Option<String>,

@@ -1,8 +1,6 @@
 //! What a line says of the page of a game.
 ghost use Rattle.std.specs.Prelude.{◌≡◌, option_map};
 
-use serde::{Described, Serialize, Serializer};
-
 /// What a line says of the page of a game, if pages are made.
 #[derive(Drop)]
 pub enum PageField {
@@ -37,13 +35,5 @@ impl PageField {
             PageField::Written(name) => Some(name.as_str()),
             PageField::Missing | PageField::CannotWrite | PageField::NoMemory => None,
         }
-    }
-}
-
-impl Described for PageField {}
-
-impl Serialize for PageField {
-    fn serialize<S: Serializer>(&self, out: &mut S) -> Result<(), S::Error> {
-        self.text().serialize(out)
     }
 }

@@ -1,85 +1,104 @@
 //! The object of what explains a case.
+ghost use Rattle.std.specs.Prelude.{◌≡◌, IfOk};
+ghost use Rattle.std.specs.Option.{option_copied};
+ghost use Rattle.json_trees.specs.Trees.{view};
+ghost use Rattle.case_objects.specs.Cases.{case_object, entry_object, is_no_game, likely_value, written_at, written_of};
 
-use answer_json::push_bad_record;
-use explanation_json::{push_explained, push_no_game};
+use answer_json::{bad_record_tree, no_game_tree};
+use call_stages::Verdict;
+use explanation_json::explained_tree;
 use explanations::Explanation;
 use game_case::{Case, Entry, Finding, case_verdict};
 use game_facts::line_of;
 use gcg_read::Record;
+use json_trees::{Tree, null_tree};
 use repair_answers::Likely;
-use repair_json::{RepairObject, single_object, whole_object};
+use repair_json::{single_tree, whole_tree};
 use std::alloc::{AllocError, Global};
 use unread_lines::UnreadLine;
 
-/// The line that is explained, as it is in the file.
-fn written_of<'t>(bytes: &'t [u8], explanation: Option<&Explanation>) -> Option<&'t [u8]> {
-    match explanation {
-        Some(
-            Explanation {
-                line: Some(line),
-                ..
-            },
-        ) => line_of(bytes, *line),
-        _ => None,
+/// A line of a text, if it is named.
+fn written_at(bytes: &[u8], line: Option<u32>) -> Option<&[u8]>
+    ensures { option_copied result ≡ written_at bytes.now line }
+{
+    match line {
+        Some(line) => line_of(bytes, line),
+        None => None,
     }
 }
 
-/// Appends the object of what explains a record, or its event on a line or after it.
-fn push_entry(
+/// The line that is explained, as it is in the file.
+fn written_of<'t>(bytes: &'t [u8], told: Option<&Explanation>) -> Option<&'t [u8]>
+    ensures { option_copied result ≡ written_of bytes.now (option_copied told.entry) }
+{
+    match told {
+        Some(told) => written_at(bytes, told.line),
+        None => None,
+    }
+}
+
+/// The likely repair of a record; null if there is none.
+fn likely_tree(alloc: Global, game: &Record, likely: Option<&Likely>) -> Result<Tree, AllocError>
+    ensures { IfOk result (λ tree. view tree ≡ likely_value game.now (option_copied likely.entry)) }
+{
+    match likely {
+        Some(Likely::Change(repair)) => single_tree(alloc, game, repair),
+        Some(Likely::Sheet(repair)) => whole_tree(alloc, &game.players, repair),
+        None => Ok(null_tree()),
+    }
+}
+
+/// Whether a record has no event.
+fn is_no_game(finding: &Finding) -> bool
+    ensures { result ≡ is_no_game finding.now }
+{
+    match finding {
+        Finding::NoGame => true,
+        Finding::Legal { .. } | Finding::Illegal { .. } | Finding::Unsettled => false,
+    }
+}
+
+/// What explains a record with its verdict, or its event on the line or after it, with the lines that are not read.
+fn entry_tree(
     alloc: Global,
-    text: &mut Vec<u8>,
-    case: &Case,
     entry: &Entry,
-    explanation: Option<&Explanation>,
+    verdict: &Verdict,
+    bytes: &[u8],
+    told: Option<&Explanation>,
     likely: Option<&Likely>,
     unread: &[UnreadLine],
-) -> Result<(), AllocError> {
-    if entry.finding == Finding::NoGame {
-        return push_no_game(alloc, text, unread);
+) -> Result<Tree, AllocError>
+    ensures { IfOk result (λ tree. view tree
+        ≡ entry_object entry.now verdict.now bytes.now (option_copied told.entry) (option_copied likely.entry) unread.now) }
+{
+    if is_no_game(&entry.finding) {
+        return no_game_tree(alloc, unread);
     }
-    let written = written_of(case.text.as_slice(), explanation);
-    let likely = likely_object(alloc, &entry.record, likely)?;
-    push_explained(
-        alloc,
-        text,
-        &case_verdict(case),
-        written,
-        explanation,
-        likely,
-        unread,
-    )
+    let written = written_of(bytes, told);
+    let likely = likely_tree(alloc, &entry.record, likely)?;
+    explained_tree(alloc, verdict, written, told, likely, unread)
 }
 
-/// The object of the likely repair of a record, if there is one.
-fn likely_object(
-    alloc: Global,
-    record: &Record,
-    likely: Option<&Likely>,
-) -> Result<Option<RepairObject>, AllocError> {
-    match likely {
-        Some(Likely::Change(repair)) => Ok(Some(single_object(alloc, record, repair)?)),
-        Some(Likely::Sheet(repair)) => Ok(Some(whole_object(alloc, record, repair)?)),
-        None => Ok(None),
-    }
-}
-
-/// The object of a case with what explains it or one of its lines, with the likely repair of its record, if that is given, and with its lines that are not
-/// read.
+/// What explains a case or one of its lines, with the likely repair of its record, if that is given, and with its lines that are not read.
 ///
 /// # Errors
 ///
 /// It fails only if memory is refused.
-pub fn case_text(
+pub fn case_tree(
     alloc: Global,
     case: &Case,
-    explanation: Option<&Explanation>,
+    told: Option<&Explanation>,
     likely: Option<&Likely>,
     unread: &[UnreadLine],
-) -> Result<Vec<u8>, AllocError> {
-    let mut text = Vec::new(alloc);
+) -> Result<Tree, AllocError>
+    ensures { IfOk result (λ tree. view tree ≡ case_object case.now (option_copied told.entry) (option_copied likely.entry) unread.now) }
+{
+    let verdict = case_verdict(case);
     match &case.read {
-        Ok(entry) => push_entry(alloc, &mut text, case, entry, explanation, likely, unread)?,
-        Err(fault) => push_bad_record(alloc, &mut text, *fault)?,
+        Ok(entry) => {
+            let bytes = case.text.as_slice();
+            entry_tree(alloc, entry, &verdict, bytes, told, likely, unread)
+        }
+        Err(fault) => bad_record_tree(alloc, *fault),
     }
-    Ok(text)
 }

@@ -4,4 +4,7 @@ pub mod Layings
 pub mod LaidTexts
 pub mod Places
 pub mod Boards
+pub mod Members
+pub mod Tried
+pub mod Shifts
 pub mod Examples

@@ -9,4 +9,5 @@ pub mod Misreadings
 pub mod Lines
 pub mod MissingLines
 pub mod Changes
+pub mod Commonest
 pub mod Laws

@@ -15,6 +15,6 @@ mod rests;
 mod spellings;
 mod tiles;
 
-pub use laws::{law_of_layings, law_of_slips};
+pub use laws::{law_of_commonest, law_of_layings, law_of_shifts, law_of_slips};
 pub use listing::slips_at;
 pub use rests::{is_rack, rest_tiles};

@@ -184,7 +184,7 @@ pub fn write<'a, R: Runtime + AllocGlobal>(rt: &R, bytes: &[u8]) -> Result<(), T
 }
 
 /// Writes bytes to standard output, or to standard error if a command writes to an output of this name that is standard output itself.
-pub fn write_beside<'a, R: Runtime + AllocGlobal>(
+fn write_beside<'a, R: Runtime + AllocGlobal>(
     rt: &R,
     out: Option<&str>,
     bytes: &[u8],

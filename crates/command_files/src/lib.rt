@@ -4,7 +4,6 @@
 #![tactic(auto)]
 
 mod advice;
-mod cases;
 mod files;
 mod folders;
 mod inputs;
@@ -13,7 +12,6 @@ mod sources;
 mod telling;
 
 pub use advice::{advise_bad_record, advise_no_game, advise_unread, has_game, is_record};
-pub use cases::{NO_GAME, has_no_event, has_page};
 pub use files::{
     InputFile, Outlet, STANDARD_ERROR, STANDARD_OUTPUT, UsedOutput, end_out, given_up, open,
     open_out, shown_out, unopened, used, used_rules, used_source, used_words, verdict_of, watched,
@@ -22,11 +20,10 @@ pub use files::{
 pub use folders::is_folder;
 pub use inputs::{
     Digests, GivenFiles, Inputs, LexiconFile, RulesFile, Told, digests_of, known_words,
-    open_inputs, open_lexicon, open_rules, refuse, rules_front, write, write_beside,
+    open_inputs, open_lexicon, open_rules, refuse, rules_front, write,
 };
 pub use objects::{refuse_in_json, told_in_json};
 pub use sources::{
-    SheetFile, Source, Words, open_sheet, open_source, open_words, sheet_of, shown, tell_others,
-    unread_in,
+    SheetFile, Source, Words, open_sheet, open_source, open_words, shown, tell_others,
 };
 pub use telling::{give_hint, repeat_fault};

@@ -9,10 +9,9 @@ use digesting::Digesting;
 use either::Either;
 use exit_statuses::Trouble;
 use first_fields::FirstFields;
-use std::alloc::{AllocError, Global};
+use std::alloc::Global;
 use std::io::{self, Read};
 use std::rt::{Files, Runtime};
-use unread_lines::{UnreadLine, unread_lines};
 use watching::WatchedRead;
 use word_lines::{Others, WordLines};
 
@@ -63,7 +62,7 @@ pub fn open_words<'a, R: Runtime + AllocGlobal>(
 pub type SheetFile<S> = FromRead<WatchedRead<S>>;
 
 /// A reader of a record, which keeps all of it.
-pub fn sheet_of<S: Read + Drop>(alloc: Global, source: S) -> SheetFile<S>
+fn sheet_of<S: Read + Drop>(alloc: Global, source: S) -> SheetFile<S>
     ensures { HasRoom (⟦<SheetFile<S> as Input>⟧.device result) }
 {
     FromRead::new(WatchedRead::new(alloc, source, gcg_read::MAX_BYTES + 1))
@@ -77,17 +76,6 @@ pub fn open_sheet<'a, R: Runtime + AllocGlobal>(
     ensures { IfOk result (λ game. HasRoom (⟦<SheetFile<Source<R>> as Input>⟧.device game)) }
 {
     Ok(sheet_of(rt.alloc(), open_source(rt, name)?))
-}
-
-/// The lines of the record that was read that are not read although they look like events; none if not all of its bytes are kept.
-pub fn unread_in<S: Read + Drop>(
-    alloc: Global,
-    game: &SheetFile<S>,
-) -> Result<Vec<UnreadLine>, AllocError> {
-    match game.inner().front().whole() {
-        Some(text) => unread_lines(alloc, text),
-        None => Ok(Vec::new(alloc)),
-    }
 }
 
 /// The watched bytes of a word list.

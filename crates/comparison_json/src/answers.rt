@@ -1,109 +1,96 @@
-//! An answer as an object.
+//! An answer as a tree.
+ghost use Rattle.std.specs.Prelude.{◌≡◌, IfOk};
+ghost use Rattle.json_trees.specs.Trees.{view};
+ghost use Rattle.json_trees.specs.Values.{text};
+ghost use Rattle.gcg_write.specs.Normal.{normal_of};
+ghost use Rattle.comparison_json.specs.Answers.{comparison_object, merged_value, not_merged};
 
-use crate::choices::{
-    BestObject, ChoiceObject, StopObject, best_object, choice_objects, furthest_object,
-};
-use crate::differences::{DifferenceObject, difference_objects};
-use crate::ends::{
-    AheadObject, PlayerObject, TotalsObject, ahead_object, ending_of, player_objects,
-    totals_objects,
-};
+use crate::choices::{best_tree, choices_array, furthest_tree};
+use crate::differences::differences_array;
+use crate::ends::{ahead_by_first, ahead_by_second, ahead_tree, ending_tree, totals_array};
 use crate::names::{verdict_name, why_name};
-use crate::repairs::{BestRepairObject, TriedObject, best_repair_object, tried_objects};
-use answer_json::{FaultObject, push_object, text_of};
+use crate::repairs::{best_repair_tree, tried_array};
+use answer_json::players_array;
 use comparison_answers::{ComparisonAnswer, WhyNotMerged};
 use gcg_read::Record;
 use gcg_write::write;
-use serde::Serialize;
+use json_trees::{Tree, name_tree, null_tree, object, size_tree, text_tree};
 use std::alloc::{AllocError, Global};
 
-/// What is found of two sheets.
-#[derive(Drop, Serialize)]
-struct ComparisonObject {
-    verdict: &'static str,
-    line: Option<u32>,
-    fault: Option<FaultObject>,
-    ending: Option<&'static str>,
-    players: Vec<PlayerObject>,
-    differences: Vec<DifferenceObject>,
-    not_varied: usize,
-    choices: usize,
-    best: Option<BestObject>,
-    rivals: Vec<ChoiceObject>,
-    left: Vec<ChoiceObject>,
-    furthest: Option<StopObject>,
-    tried: Vec<TriedObject>,
-    best_repair: Option<BestRepairObject>,
-    totals: Vec<TotalsObject>,
-    ahead: Option<AheadObject>,
-    ahead_by_first: Option<AheadObject>,
-    ahead_by_second: Option<AheadObject>,
-    merged: Option<String>,
-    not_merged: Option<&'static str>,
-}
-
-/// The merged record in the normal form, if there is one.
-fn merged_text(
-    alloc: Global,
-    merged: &Result<Record, WhyNotMerged>,
-) -> Result<Option<String>, AllocError> {
-    let Ok(game) = merged else {
-        return Ok(None);
-    };
+/// A record in the normal form.
+fn normal_tree(alloc: Global, game: &Record) -> Result<Tree, AllocError>
+    ensures { IfOk result (λ tree. view tree ≡ text (normal_of game.now)) }
+{
     let mut text = Vec::new(alloc);
-    match write(game, &mut text) {
-        Ok(()) => Ok(Some(text_of(alloc, text.as_slice())?)),
-        Err(_) => Err(AllocError),
-    }
+    write(game, &mut text)?;
+    text_tree(alloc, text.as_slice())
 }
 
-/// Why there is no merged record, if there is none.
-fn why_not_merged(merged: &Result<Record, WhyNotMerged>) -> Option<&'static str> {
+/// The merged record in the normal form; null if there is none.
+fn merged_tree(alloc: Global, merged: &Result<Record, WhyNotMerged>) -> Result<Tree, AllocError>
+    ensures { IfOk result (λ tree. view tree ≡ merged_value merged.now) }
+{
     match merged {
-        Ok(_) => None,
-        Err(why) => Some(why_name(*why)),
+        Ok(game) => normal_tree(alloc, game),
+        Err(_) => Ok(null_tree()),
     }
 }
 
-/// What is found of two sheets.
-fn comparison_object(
-    alloc: Global,
-    answer: &ComparisonAnswer,
-) -> Result<ComparisonObject, AllocError> {
-    let counts = &answer.counts;
-    let find = &answer.comparison.find;
-    let results = answer.end.as_ref().map(|end| &end.results);
-    Ok(ComparisonObject {
-        verdict: verdict_name(answer.agreement),
-        line: None,
-        fault: None,
-        ending: answer.end.as_ref().map(ending_of),
-        players: player_objects(alloc, &answer.sheets.first.players)?,
-        differences: difference_objects(alloc, answer)?,
-        not_varied: counts.not_varied,
-        choices: counts.choices,
-        best: best_object(alloc, counts, &find.best)?,
-        rivals: choice_objects(alloc, counts, find.rivals.as_slice())?,
-        left: choice_objects(alloc, counts, find.left.as_slice())?,
-        furthest: furthest_object(alloc, answer)?,
-        tried: tried_objects(alloc, answer)?,
-        best_repair: best_repair_object(answer),
-        totals: totals_objects(alloc, &answer.end)?,
-        ahead: results.map(|results| ahead_object(&results.right)),
-        ahead_by_first: results.map(|results| ahead_object(&results.first)),
-        ahead_by_second: results.map(|results| ahead_object(&results.second)),
-        merged: merged_text(alloc, &answer.merged)?,
-        not_merged: why_not_merged(&answer.merged),
-    })
+/// Why there is no merged record; null if there is one.
+fn not_merged(merged: &Result<Record, WhyNotMerged>) -> Tree
+    ensures { view result ≡ not_merged merged.now }
+{
+    match merged {
+        Ok(_) => null_tree(),
+        Err(why) => name_tree(why_name(*why)),
+    }
 }
 
-/// Appends what is found of two sheets: whether they agree, each difference, the choices of the lines, how the game ends, and the merged record.
+/// What is found of two sheets: whether they agree, each difference, the choices of the lines, how the game ends, and the merged record.
 ///
-/// It fails only if memory runs out.
-pub fn push_comparison_answer(
-    alloc: Global,
-    text: &mut Vec<u8>,
-    answer: &ComparisonAnswer,
-) -> Result<(), AllocError> {
-    push_object(alloc, text, &comparison_object(alloc, answer)?)
+/// # Errors
+///
+/// Memory was refused.
+pub fn comparison_tree(alloc: Global, answer: &ComparisonAnswer) -> Result<Tree, AllocError>
+    ensures { IfOk result (λ tree. view tree ≡ comparison_object answer.now) }
+{
+    let counts = &answer.counts;
+    let players = &answer.sheets.first.players;
+    let find = &answer.comparison.find;
+    let both = players_array(alloc, players)?;
+    let differences = differences_array(alloc, &answer.sheets, answer.pairs.as_slice())?;
+    let best = best_tree(alloc, counts, &find.best)?;
+    let rivals = choices_array(alloc, counts, find.rivals.as_slice())?;
+    let left = choices_array(alloc, counts, find.left.as_slice())?;
+    let furthest = furthest_tree(alloc, answer)?;
+    let tried = tried_array(alloc, counts, players, answer.repaired.tried.as_slice())?;
+    let best_repair = best_repair_tree(alloc, answer.changed, &answer.repaired.best)?;
+    let totals = totals_array(alloc, &answer.end)?;
+    let ahead = ahead_tree(alloc, &answer.end)?;
+    let by_first = ahead_by_first(alloc, &answer.end)?;
+    let by_second = ahead_by_second(alloc, &answer.end)?;
+    let merged = merged_tree(alloc, &answer.merged)?;
+    let fields = vec![in alloc;
+        ("verdict", name_tree(verdict_name(answer.agreement))),
+        ("line", null_tree()),
+        ("fault", null_tree()),
+        ("ending", ending_tree(&answer.end)),
+        ("players", both),
+        ("differences", differences),
+        ("not_varied", size_tree(counts.not_varied)),
+        ("choices", size_tree(counts.choices)),
+        ("best", best),
+        ("rivals", rivals),
+        ("left", left),
+        ("furthest", furthest),
+        ("tried", tried),
+        ("best_repair", best_repair),
+        ("totals", totals),
+        ("ahead", ahead),
+        ("ahead_by_first", by_first),
+        ("ahead_by_second", by_second),
+        ("merged", merged),
+        ("not_merged", not_merged(&answer.merged)),
+    ]?;
+    Ok(object(fields))
 }

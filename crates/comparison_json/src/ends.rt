@@ -1,57 +1,29 @@
-//! How the game ends, as objects.
+//! How the game ends, as trees.
+ghost use Rattle.std.specs.Prelude.{◌≡◌, IfOk};
+ghost use Rattle.json_trees.specs.Trees.{view};
+ghost use Rattle.comparison_json.specs.Answers.{ahead_by_first, ahead_by_second, ahead_value, ending_value, totals_object, totals_value};
 
-use answer_json::{number_of, text_unless_empty};
+use answer_json::{ending_name, number_of, standing_tree};
 use comparison_answers::GameEnd;
-use game_sheets::Standing;
-use gcg_read::{Player, Players, Points, Seat};
-use serde::Serialize;
+use gcg_read::{Points, Seat};
+use json_trees::{Tree, array, count_tree, integer_or_null, name_tree, null_tree, object};
 use sheet_comparisons::LastTotals;
 use std::alloc::{AllocError, Global};
 
-/// A player.
-#[derive(Drop, Serialize)]
-pub(crate) struct PlayerObject {
-    nick: Option<String>,
-    name: Option<String>,
-}
-
-/// The last totals of a player.
-#[derive(Drop, Serialize)]
-pub(crate) struct TotalsObject {
-    player: u32,
-    first: Option<i32>,
-    second: Option<i32>,
-    right: Option<i32>,
-}
-
-/// Who is ahead; no player if both have the same total.
-#[derive(Drop, Serialize)]
-pub(crate) struct AheadObject {
-    player: Option<u32>,
-    by: i32,
-}
-
-/// A player.
-fn player_object(alloc: Global, player: &Player) -> Result<PlayerObject, AllocError> {
-    Ok(PlayerObject {
-        nick: text_unless_empty(alloc, player.nick.as_bytes())?,
-        name: text_unless_empty(alloc, player.full.as_bytes())?,
-    })
-}
-
-/// Both players.
-pub(crate) fn player_objects(
-    alloc: Global,
-    players: &Players,
-) -> Result<Vec<PlayerObject>, AllocError> {
-    let mut objects = Vec::new(alloc);
-    objects.push(player_object(alloc, &players.first)?)?;
-    objects.push(player_object(alloc, &players.second)?)?;
-    Ok(objects)
+/// Whether the game has ended; null if it is not known how it ends.
+pub(crate) fn ending_tree(end: &Option<GameEnd>) -> Tree
+    ensures { view result ≡ ending_value end.now }
+{
+    match end {
+        Some(end) => name_tree(ending_name(end.complete)),
+        None => null_tree(),
+    }
 }
 
 /// A total, if there is one.
-fn total_of(points: Option<Points>) -> Option<i32> {
+fn total_of(points: Option<Points>) -> Option<i32>
+    ensures { result ≡ points }
+{
     match points {
         Some(points) => Some(points.value()),
         None => None,
@@ -59,47 +31,59 @@ fn total_of(points: Option<Points>) -> Option<i32> {
 }
 
 /// The last totals of a player.
-fn totals_object(player: Seat, totals: &LastTotals) -> TotalsObject {
-    TotalsObject {
-        player: number_of(player),
-        first: total_of(totals.first),
-        second: total_of(totals.second),
-        right: total_of(totals.right),
-    }
+fn totals_tree(alloc: Global, player: Seat, totals: &LastTotals) -> Result<Tree, AllocError>
+    ensures { IfOk result (λ tree. view tree ≡ totals_object player totals.now) }
+{
+    let fields = vec![in alloc;
+        ("player", count_tree(number_of(player))),
+        ("first", integer_or_null(total_of(totals.first))),
+        ("second", integer_or_null(total_of(totals.second))),
+        ("right", integer_or_null(total_of(totals.right))),
+    ]?;
+    Ok(object(fields))
 }
 
 /// The last totals of both players, if it is known how the game ends.
-pub(crate) fn totals_objects(
-    alloc: Global,
-    end: &Option<GameEnd>,
-) -> Result<Vec<TotalsObject>, AllocError> {
-    let mut objects = Vec::new(alloc);
-    if let Some(end) = end {
-        objects.push(totals_object(Seat::First, &end.results.of_first))?;
-        objects.push(totals_object(Seat::Second, &end.results.of_second))?;
-    }
-    Ok(objects)
-}
-
-/// Who is ahead.
-pub(crate) fn ahead_object(standing: &Standing) -> AheadObject {
-    match standing {
-        Standing::Even => AheadObject {
-            player: None,
-            by: 0,
-        },
-        Standing::Ahead(player, by) => AheadObject {
-            player: Some(number_of(*player)),
-            by: *by,
-        },
+pub(crate) fn totals_array(alloc: Global, end: &Option<GameEnd>) -> Result<Tree, AllocError>
+    ensures { IfOk result (λ tree. view tree ≡ totals_value end.now) }
+{
+    match end {
+        Some(end) => {
+            let first = totals_tree(alloc, Seat::First, &end.results.of_first)?;
+            let second = totals_tree(alloc, Seat::Second, &end.results.of_second)?;
+            let trees = vec![in alloc; first, second]?;
+            Ok(array(trees))
+        }
+        None => Ok(array(Vec::new(alloc))),
     }
 }
 
-/// Whether the game has ended.
-pub(crate) fn ending_of(end: &GameEnd) -> &'static str {
-    if end.complete {
-        "complete"
-    } else {
-        "unfinished"
+/// Who is ahead by the right numbers; null if it is not known how the game ends.
+pub(crate) fn ahead_tree(alloc: Global, end: &Option<GameEnd>) -> Result<Tree, AllocError>
+    ensures { IfOk result (λ tree. view tree ≡ ahead_value end.now) }
+{
+    match end {
+        Some(end) => standing_tree(alloc, &end.results.right),
+        None => Ok(null_tree()),
+    }
+}
+
+/// Who is ahead by the numbers of the first sheet.
+pub(crate) fn ahead_by_first(alloc: Global, end: &Option<GameEnd>) -> Result<Tree, AllocError>
+    ensures { IfOk result (λ tree. view tree ≡ ahead_by_first end.now) }
+{
+    match end {
+        Some(end) => standing_tree(alloc, &end.results.first),
+        None => Ok(null_tree()),
+    }
+}
+
+/// Who is ahead by the numbers of the second sheet.
+pub(crate) fn ahead_by_second(alloc: Global, end: &Option<GameEnd>) -> Result<Tree, AllocError>
+    ensures { IfOk result (λ tree. view tree ≡ ahead_by_second end.now) }
+{
+    match end {
+        Some(end) => standing_tree(alloc, &end.results.second),
+        None => Ok(null_tree()),
     }
 }

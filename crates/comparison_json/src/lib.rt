@@ -1,6 +1,6 @@
-//! What `compare` finds of two sheets as JSON, for programs: one object and an LF.
+//! What `compare` finds of two sheets as a tree, for programs.
 //!
-//! [`push_comparison_answer`] makes it only from the answer of `comparison_answers`, as `answer_json` does for all other answers.
+//! [`comparison_tree`] takes the answer of `comparison_answers`; its contract says that the tree is exactly the object that `specs/` defines for it.
 #![tactic(auto)]
 
 mod answers;
@@ -10,4 +10,4 @@ mod ends;
 mod names;
 mod repairs;
 
-pub use answers::push_comparison_answer;
+pub use answers::comparison_tree;

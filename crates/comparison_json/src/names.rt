@@ -1,10 +1,14 @@
 //! Names of what is found.
+ghost use Rattle.std.specs.Prelude.{◌≡◌};
+ghost use Rattle.comparison_json.specs.Names.{lines_name, other_name, own_rack_name, racks_name, side_name, verdict_name, why_name};
 
 use comparison_answers::{Agreement, LinesAnswer, OtherLine, OwnRack, RacksAnswer, WhyNotMerged};
 use sheet_alignments::Side;
 
 /// The name of a sheet.
-pub(crate) fn side_name(side: Side) -> &'static str {
+pub(crate) fn side_name(side: Side) -> &'static str
+    ensures { result.now ≡ side_name side }
+{
     match side {
         Side::First => "first",
         Side::Second => "second",
@@ -12,7 +16,9 @@ pub(crate) fn side_name(side: Side) -> &'static str {
 }
 
 /// The verdict on two sheets.
-pub(crate) fn verdict_name(agreement: Agreement) -> &'static str {
+pub(crate) fn verdict_name(agreement: Agreement) -> &'static str
+    ensures { result.now ≡ verdict_name agreement }
+{
     match agreement {
         Agreement::Agree => "agree",
         Agreement::Differ => "differ",
@@ -21,7 +27,9 @@ pub(crate) fn verdict_name(agreement: Agreement) -> &'static str {
 }
 
 /// The name of what is said of two lines.
-pub(crate) fn lines_name(lines: LinesAnswer) -> &'static str {
+pub(crate) fn lines_name(lines: LinesAnswer) -> &'static str
+    ensures { result.now ≡ lines_name lines }
+{
     match lines {
         LinesAnswer::Agree => "agree",
         LinesAnswer::OtherScores { .. } => "other scores",
@@ -30,7 +38,9 @@ pub(crate) fn lines_name(lines: LinesAnswer) -> &'static str {
 }
 
 /// The name of what comes of the line that is not taken.
-pub(crate) fn other_name(other: OtherLine) -> &'static str {
+pub(crate) fn other_name(other: OtherLine) -> &'static str
+    ensures { result.now ≡ other_name other }
+{
     match other {
         OtherLine::NotVaried => "not varied",
         OtherLine::AsGood => "as good",
@@ -43,7 +53,9 @@ pub(crate) fn other_name(other: OtherLine) -> &'static str {
 }
 
 /// The name of what is said of two racks.
-pub(crate) fn racks_name(racks: RacksAnswer) -> &'static str {
+pub(crate) fn racks_name(racks: RacksAnswer) -> &'static str
+    ensures { result.now ≡ racks_name racks }
+{
     match racks {
         RacksAnswer::Same => "same",
         RacksAnswer::Differ => "differ",
@@ -53,7 +65,9 @@ pub(crate) fn racks_name(racks: RacksAnswer) -> &'static str {
 }
 
 /// The name of why a player's own rack is not taken.
-pub(crate) fn own_rack_name(why: OwnRack) -> &'static str {
+pub(crate) fn own_rack_name(why: OwnRack) -> &'static str
+    ensures { result.now ≡ own_rack_name why }
+{
     match why {
         OwnRack::NoGame => "no game",
         OwnRack::NoDeal => "no deal",
@@ -63,7 +77,9 @@ pub(crate) fn own_rack_name(why: OwnRack) -> &'static str {
 }
 
 /// The name of why there is no merged record.
-pub(crate) fn why_name(why: WhyNotMerged) -> &'static str {
+pub(crate) fn why_name(why: WhyNotMerged) -> &'static str
+    ensures { result.now ≡ why_name why }
+{
     match why {
         WhyNotMerged::OtherChoice => "other choice",
         WhyNotMerged::ChoiceLeftOpen => "choice left open",

@@ -1,13 +1,19 @@
-//! The fault of a draft as an object.
+//! The fault of a draft as a tree.
+ghost use Rattle.std.specs.Prelude.{◌≡◌, IfOk};
+ghost use Rattle.json_trees.specs.Trees.{view};
+ghost use Rattle.draft_json.specs.Faults.{amiss_value, amiss_word, bad_object};
 
-use crate::members::{close, push_member, reopen};
-use answer_json::push_bad_record;
+use answer_json::refused_fields;
+use call_stages::InputFault;
 use draft_answers::DraftFault;
 use gcg_drafts::Amiss;
+use json_trees::{Tree, name_tree, null_tree, object, with_field_if};
 use std::alloc::{AllocError, Global};
 
 /// What is amiss with the fields of a line, by its name.
-fn amiss_name(amiss: &Amiss) -> &'static str {
+fn amiss_name(amiss: &Amiss) -> &'static str
+    ensures { result.now ≡ amiss_word amiss.now }
+{
     match amiss {
         Amiss::NoEvent => "no event",
         Amiss::NoWord => "no word",
@@ -16,20 +22,23 @@ fn amiss_name(amiss: &Amiss) -> &'static str {
     }
 }
 
-/// Appends the fault of a draft: the object of a bad record, and after its members which field the line lacks, or that it has too many.
+/// The same; null if the fields of the line are those of a draft.
+fn amiss_tree(amiss: &Option<Amiss>) -> Tree
+    ensures { view result ≡ amiss_value amiss.now }
+{
+    match amiss {
+        None => null_tree(),
+        Some(amiss) => name_tree(amiss_name(amiss)),
+    }
+}
+
+/// The fault of a draft: the object of a bad record, and after its members which field the line lacks, or that it has too many.
 ///
 /// It fails only if memory runs out.
-pub fn push_bad_draft(
-    alloc: Global,
-    text: &mut Vec<u8>,
-    fault: &DraftFault,
-) -> Result<(), AllocError> {
-    push_bad_record(alloc, text, fault.fault)?;
-    reopen(text);
-    let amiss = match &fault.amiss {
-        None => None,
-        Some(amiss) => Some(amiss_name(amiss)),
-    };
-    push_member(alloc, text, b"amiss", &amiss)?;
-    close(text)
+pub fn bad_draft_tree(alloc: Global, fault: &DraftFault) -> Result<Tree, AllocError>
+    ensures { IfOk result (λ tree. view tree ≡ bad_object fault.now) }
+{
+    let fields = refused_fields(alloc, &InputFault::Game(fault.fault))?;
+    let fields = with_field_if(fields, "amiss", Some(amiss_tree(&fault.amiss)))?;
+    Ok(object(fields))
 }

@@ -1,14 +1,14 @@
-//! What is found of a draft, and what its next line is about, as objects for programs.
+//! What is found of a draft, and what its next line is about, as trees: the contract of each call says that its tree is exactly the object that `specs/` defines
+//! for its value.
 //!
-//! [`push_fill_answer`] writes the object of `audit` with the numbers that were put in, [`push_next_answer`] what the next line is about, and
-//! [`push_bad_draft`] the first fault of a draft.
+//! [`fill_tree`] is the object of `audit` with the numbers that were put in, [`next_tree`] what the next line is about, and [`bad_draft_tree`] the first fault of
+//! a draft.
 #![tactic(auto)]
 
 mod faults;
 mod fills;
-mod members;
 mod nexts;
 
-pub use faults::push_bad_draft;
-pub use fills::push_fill_answer;
-pub use nexts::push_next_answer;
+pub use faults::bad_draft_tree;
+pub use fills::fill_tree;
+pub use nexts::next_tree;

@@ -1,99 +1,102 @@
-//! What the next line of a draft is about as an object.
+//! What the next line of a draft is about as a tree.
+ghost use Rattle.std.specs.Prelude.{◌≡◌, IfOk};
+ghost use Rattle.json_trees.specs.Trees.{view};
+ghost use Rattle.draft_json.specs.Nexts.{next_object, seat_value, side_object, sides_value, stopped_fault, stopped_line, stopped_word};
 
-use answer_json::{FaultObject, number_of, push_object, text_unless_empty, verdict_fields};
-use call_stages::{GameFault, Verdict};
+use answer_json::{game_fault_tree, given_tree, number_of};
+use call_stages::GameFault;
 use draft_answers::{DraftNext, NextSide};
 use game_rows::Refusal;
 use gcg_read::{Player, Seat};
-use serde::Serialize;
+use json_trees::{
+    Tree, array, bool_tree, count_tree, integer_tree, name_tree, null_tree, object, size_tree,
+};
 use std::alloc::{AllocError, Global};
 
-/// A player before the next line.
-#[derive(Drop, Serialize)]
-struct SideObject {
-    nick: Option<String>,
-    name: Option<String>,
-    total: i32,
-    tiles: usize,
-}
-
-/// What the next line is about.
-#[derive(Drop, Serialize)]
-struct NextObject {
-    verdict: &'static str,
-    line: Option<u32>,
-    fault: Option<FaultObject>,
-    complete: bool,
-    turn: Option<u32>,
-    out: Option<u32>,
-    players: Vec<SideObject>,
-    bag: usize,
-}
-
-/// A player before the next line.
-fn side_object(alloc: Global, player: &Player, side: &NextSide) -> Result<SideObject, AllocError> {
-    Ok(SideObject {
-        nick: text_unless_empty(alloc, player.nick.as_bytes())?,
-        name: text_unless_empty(alloc, player.full.as_bytes())?,
-        total: side.total,
-        tiles: side.rack,
-    })
-}
-
-/// Both players before the next line.
-fn side_objects(alloc: Global, draft: &DraftNext) -> Result<Vec<SideObject>, AllocError> {
-    let players = &draft.record.players;
-    let mut sides = Vec::new(alloc);
-    sides.push(side_object(alloc, &players.first, &draft.next.first)?)?;
-    sides.push(side_object(alloc, &players.second, &draft.next.second)?)?;
-    Ok(sides)
-}
-
-/// The number of a player, if there is one.
-fn number_in(player: Option<Seat>) -> Option<u32> {
-    match player {
-        None => None,
-        Some(player) => Some(number_of(player)),
+/// Whether the rules refuse a line.
+fn stopped_name(stopped: &Option<Refusal>) -> &'static str
+    ensures { result.now ≡ stopped_word stopped.now }
+{
+    match stopped {
+        None => "ok",
+        Some(_) => "illegal",
     }
 }
 
-/// The fault of the line that the rules refuse, if there is one.
-fn fault_object(
-    alloc: Global,
-    stopped: &Option<Refusal>,
-) -> Result<Option<FaultObject>, AllocError> {
-    let Some(refusal) = stopped else {
-        return Ok(None);
-    };
-    let verdict = Verdict::Illegal {
-        line: refusal.line,
-        fault: GameFault::Rule(refusal.why),
-    };
-    Ok(verdict_fields(alloc, &verdict)?.fault)
+/// The line that the rules refuse; null if there is none.
+fn stopped_line(stopped: &Option<Refusal>) -> Tree
+    ensures { view result ≡ stopped_line stopped.now }
+{
+    match stopped {
+        None => null_tree(),
+        Some(refusal) => count_tree(refusal.line),
+    }
 }
 
-/// Appends what the next line of a draft is about: whose turn it is, what the players have, and how many tiles are in the bag. If the rules refuse a
-/// line, the next one is that line, and its fault is given.
+/// The fault of the line that the rules refuse; null if there is none.
+fn stopped_fault(alloc: Global, stopped: &Option<Refusal>) -> Result<Tree, AllocError>
+    ensures { IfOk result (λ tree. view tree ≡ stopped_fault stopped.now) }
+{
+    match stopped {
+        None => Ok(null_tree()),
+        Some(refusal) => game_fault_tree(alloc, &GameFault::Rule(refusal.why)),
+    }
+}
+
+/// The number of a player; null if it is none of the two.
+fn seat_tree(player: Option<Seat>) -> Tree
+    ensures { view result ≡ seat_value player }
+{
+    match player {
+        None => null_tree(),
+        Some(player) => count_tree(number_of(player)),
+    }
+}
+
+/// A player before the next line.
+fn side_tree(alloc: Global, player: &Player, side: &NextSide) -> Result<Tree, AllocError>
+    ensures { IfOk result (λ tree. view tree ≡ side_object player.now side.now) }
+{
+    let nick = given_tree(alloc, player.nick.as_bytes())?;
+    let full = given_tree(alloc, player.full.as_bytes())?;
+    let fields = vec![in alloc;
+        ("nick", nick),
+        ("name", full),
+        ("total", integer_tree(side.total)),
+        ("tiles", size_tree(side.rack)),
+    ]?;
+    Ok(object(fields))
+}
+
+/// Both players before the next line.
+fn sides_array(alloc: Global, draft: &DraftNext) -> Result<Tree, AllocError>
+    ensures { IfOk result (λ tree. view tree ≡ sides_value draft.now) }
+{
+    let players = &draft.record.players;
+    let first = side_tree(alloc, &players.first, &draft.next.first)?;
+    let second = side_tree(alloc, &players.second, &draft.next.second)?;
+    let trees = vec![in alloc; first, second]?;
+    Ok(array(trees))
+}
+
+/// What the next line of a draft is about: whose turn it is, what the players have, and how many tiles are in the bag. If the rules refuse a line, the next
+/// one is that line, and its fault is given.
 ///
 /// It fails only if memory runs out.
-pub fn push_next_answer(
-    alloc: Global,
-    text: &mut Vec<u8>,
-    draft: &DraftNext,
-) -> Result<(), AllocError> {
-    let line = match &draft.stopped {
-        Some(refusal) => Some(refusal.line),
-        None => None,
-    };
-    let object = NextObject {
-        verdict: if line.is_some() { "illegal" } else { "ok" },
-        line,
-        fault: fault_object(alloc, &draft.stopped)?,
-        complete: draft.next.complete,
-        turn: number_in(draft.next.turn),
-        out: number_in(draft.next.out),
-        players: side_objects(alloc, draft)?,
-        bag: draft.next.bag,
-    };
-    push_object(alloc, text, &object)
+pub fn next_tree(alloc: Global, draft: &DraftNext) -> Result<Tree, AllocError>
+    ensures { IfOk result (λ tree. view tree ≡ next_object draft.now) }
+{
+    let fault = stopped_fault(alloc, &draft.stopped)?;
+    let players = sides_array(alloc, draft)?;
+    let fields = vec![in alloc;
+        ("verdict", name_tree(stopped_name(&draft.stopped))),
+        ("line", stopped_line(&draft.stopped)),
+        ("fault", fault),
+        ("complete", bool_tree(draft.next.complete)),
+        ("turn", seat_tree(draft.next.turn)),
+        ("out", seat_tree(draft.next.out)),
+        ("players", players),
+        ("bag", size_tree(draft.next.bag)),
+    ]?;
+    Ok(object(fields))
 }

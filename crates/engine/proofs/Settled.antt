@@ -1,74 +1,69 @@
--- Verdicts on records, by what is found of their racks.
-use Rattle.std.proofs.Common.{◌≡◌, ℕ, List, Some, inl, inr}
+-- Verdicts on records, by what is found of them.
+use Rattle.std.proofs.Common.{◌≡◌, ℕ, Bool, List, inl, inr}
 use Rattle.ref_tiles.specs.declared.rulebook.Rules.{Rules}
+use Rattle.gcg_read.specs.declared.events.Event.{Event}
 use Rattle.gcg_read.specs.declared.records.Record.{Record}
 use Rattle.game_turns.specs.declared.faults.RuleFault.{RuleFault}
-use Rattle.game_turns.specs.declared.passed.Passed.{Passed}
-use Rattle.game_turns.specs.Passing.{rules_in, record_in}
-use Rattle.game_turns.specs.Places.{AreAllowed, IsFirstRefusal}
-use Rattle.deal_steps.specs.declared.faults.DealBound.{DealBound}
-use Rattle.deal_steps.specs.Bounds.{first_bound}
-use Rattle.deal_completion.specs.Completion.{dealt}
-use Rattle.deal_cuts.specs.declared.earlier.Earlier.{Earlier}
-use Rattle.game_deal.specs.Laws.{FittingIsBounded}
-use Rattle.game_deal.specs.Recorded.{steps_of}
+use Rattle.game_turns.specs.Places.{IsFirstRefusal, is_finished}
+use Rattle.deal_steps.specs.declared.faults.DealBound.TheVariants as deal
 use Rattle.engine.specs.declared.judging.Judging.{Judging}
 use Rattle.engine.specs.declared.judging.Judging.TheVariants as judging
+use Rattle.call_stages.specs.declared.verdicts.GameFault.{GameFault}
 use Rattle.call_stages.specs.declared.verdicts.GameFault.TheVariants as game
 use Rattle.call_stages.specs.declared.verdicts.Verdict.{Verdict}
 use Rattle.call_stages.specs.declared.verdicts.Verdict.TheVariants as verdict
-use Rattle.engine.specs.Judging.{IsToldBound, IsToldLegal, IsPastBound, IsJudged}
 use Rattle.call_stages.specs.Reports.{illegal_line, unsettled_line}
-use Rattle.engine.specs.Settling.{IsSettled, IsJudgedBy}
 use Rattle.call_stages.specs.Telling.{IsTold}
-use Rattle.game_deal.specs.Racks.{AreTried, AreFound}
-use Rattle.game_deal.specs.declared.racks.RackFinding.TheVariants as rack
-use Rattle.game_deal.specs.declared.racks.RackTrial.TheVariants as trial
-use Rattle.game_deal.proofs.Deals.{exceeds}
-use Rattle.game_deal.proofs.FoundRacks.{ends_on, left_open}
+use Rattle.game_case.specs.declared.findings.Finding.TheVariants as finding
+use Rattle.game_case.specs.Archiving.{IsFaulty}
+use Rattle.game_case.specs.Settling.{ExceedBound}
+use Rattle.engine.specs.Judging.{IsToldLegal, IsPastBound}
+use Rattle.engine.specs.Settling.{IsSettled, IsFoundBy, IsJudgedBy}
 
--- ---- verdicts
+-- ---- an event that is not allowed
 
 pub judged_refused : (question : Judging) (rules : Rules) (words : List (List ℕ)) (r : Record) (line : ℕ) (why : RuleFault) (v : Verdict) (report : List ℕ) → IsFirstRefusal rules words r.events line why
     → IsTold (verdict.Illegal line (game.Rule why)) (illegal_line line (game.Rule why)) v report → IsJudgedBy question rules words r v report
 judged_refused judging.ByRule rules words r line why v report first told = inr (inl (record { line = line; why = why; first = first; told = told }))
 judged_refused judging.BySearch rules words r line why v report first told = inr (inl (record { line = line; why = why; first = first; told = told }))
 
-past_bound : FittingIsBounded → (rules : Rules) (words : List (List ℕ)) (r : Record) (bound : DealBound) (v : Verdict) (report : List ℕ) → AreAllowed rules words r.events
-    → first_bound rules (steps_of rules r.events) ≡ Some bound → IsToldBound bound v report → IsPastBound rules words r v report
-past_bound law rules words r bound v report allowed is told = record { bound = bound; exceeded = exceeds law rules words r.events bound allowed is; told = told }
+-- ---- what is found if all are
 
--- ---- by the deal of the rule
+-- a record without an event is judged like any other
+pub none_found : (question : Judging) (rules : Rules) (words : List (List ℕ)) (events : List Event) → IsFoundBy question rules words events finding.NoGame → ⊥
+none_found judging.ByRule rules words events is = is
+none_found judging.BySearch rules words events is = is
 
-pub judged_dealt : (passed : Passed) (words : List (List ℕ)) (v : Verdict) (report : List ℕ) → AreAllowed (rules_in passed) words (record_in passed).events
-    → AreTried passed trial.Dealt → IsToldLegal (rules_in passed) words (record_in passed) v report → IsJudged (rules_in passed) words (record_in passed) v report
-judged_dealt passed words v report allowed dealt told = inl (record { allowed = allowed; is_dealt = dealt; told = told })
+pub found_complete : (question : Judging) (rules : Rules) (words : List (List ℕ)) (events : List Event) (complete : Bool) → IsFoundBy question rules words events (finding.Legal complete)
+    → complete ≡ is_finished rules events
+found_complete judging.ByRule rules words events complete is = is.2
+found_complete judging.BySearch rules words events complete is = is.1
 
-pub judged_past : FittingIsBounded → (passed : Passed) (words : List (List ℕ)) (bound : DealBound) (v : Verdict) (report : List ℕ) → AreAllowed (rules_in passed) words (record_in passed).events
-    → AreTried passed (trial.PastBound bound) → IsToldBound bound v report → IsJudged (rules_in passed) words (record_in passed) v report
-judged_past law passed words bound v report allowed is told = inr (inr (inl (past_bound law (rules_in passed) words (record_in passed) bound v report allowed is told)))
+pub judged_legal : (question : Judging) (rules : Rules) (words : List (List ℕ)) (r : Record) (complete : Bool) (v : Verdict) (report : List ℕ)
+    → IsFoundBy question rules words r.events (finding.Legal complete) → IsToldLegal rules words r v report → IsJudgedBy question rules words r v report
+judged_legal judging.ByRule rules words r complete v report is told = inl (record { allowed = is.0; is_dealt = is.1; told = told })
+judged_legal judging.BySearch rules words r complete v report is told = inl (record { game = is.0; told = told })
 
-pub judged_open : (passed : Passed) (words : List (List ℕ)) (v : Verdict) (report : List ℕ) → AreAllowed (rules_in passed) words (record_in passed).events
-    → AreTried passed trial.Open → IsTold verdict.Unsettled unsettled_line v report → IsJudged (rules_in passed) words (record_in passed) v report
-judged_open passed words v report allowed left told =
-    inr (inr (inr (record { unsettled = left_open passed words allowed left; told = told })))
+past_bound : (rules : Rules) (words : List (List ℕ)) (r : Record) (line : ℕ) (fault : GameFault) (v : Verdict) (report : List ℕ) → ExceedBound rules words r.events line fault
+    → IsTold (verdict.Illegal line fault) (illegal_line line fault) v report → IsPastBound rules words r v report
+past_bound rules words r line (game.Rule why) v report is told = absurd is
+past_bound rules words r line game.RackTooBig v report is told = record { bound = deal.RackTooBig line; exceeded = is; told = told }
+past_bound rules words r line (game.TilesShort kind) v report is told = record { bound = deal.TilesShort line kind; exceeded = is; told = told }
+past_bound rules words r line (game.NoDeal earlier) v report is told = absurd is
 
--- ---- by a search
+faulty : (rules : Rules) (words : List (List ℕ)) (r : Record) (line : ℕ) (fault : GameFault) (v : Verdict) (report : List ℕ) → IsFaulty rules words r.events line fault
+    → IsTold (verdict.Illegal line fault) (illegal_line line fault) v report → IsSettled rules words r v report
+faulty rules words r line (game.Rule why) v report is told = inr (inl (record { line = line; why = why; first = is; told = told }))
+faulty rules words r line game.RackTooBig v report is told = inr (inr (inl (record { bound = deal.RackTooBig line; exceeded = is; told = told })))
+faulty rules words r line (game.TilesShort kind) v report is told = inr (inr (inl (record { bound = deal.TilesShort line kind; exceeded = is; told = told })))
+faulty rules words r line (game.NoDeal earlier) v report is told = inr (inr (inr (inl (record { line = line; earlier = earlier; ends = is; told = told }))))
 
-pub settled_dealt : (passed : Passed) (words : List (List ℕ)) (v : Verdict) (report : List ℕ) → AreAllowed (rules_in passed) words (record_in passed).events
-    → AreFound passed rack.Dealt → IsToldLegal (rules_in passed) words (record_in passed) v report → IsSettled (rules_in passed) words (record_in passed) v report
-settled_dealt passed words v report allowed deal told = inl (record { game = record { allowed = allowed; racks = deal.racks; dealt = deal.fits }; told = told })
+pub judged_illegal : (question : Judging) (rules : Rules) (words : List (List ℕ)) (r : Record) (line : ℕ) (fault : GameFault) (v : Verdict) (report : List ℕ)
+    → IsFoundBy question rules words r.events (finding.Illegal line fault) → IsTold (verdict.Illegal line fault) (illegal_line line fault) v report → IsJudgedBy question rules words r v report
+judged_illegal judging.ByRule rules words r line fault v report is told = inr (inr (inl (past_bound rules words r line fault v report is told)))
+judged_illegal judging.BySearch rules words r line fault v report is told = faulty rules words r line fault v report is told
 
-pub settled_past : FittingIsBounded → (passed : Passed) (words : List (List ℕ)) (bound : DealBound) (v : Verdict) (report : List ℕ) → AreAllowed (rules_in passed) words (record_in passed).events
-    → AreFound passed (rack.PastBound bound) → IsToldBound bound v report → IsSettled (rules_in passed) words (record_in passed) v report
-settled_past law passed words bound v report allowed is told = inr (inr (inl (past_bound law (rules_in passed) words (record_in passed) bound v report allowed is told)))
-
-pub settled_out : (passed : Passed) (words : List (List ℕ)) (line : ℕ) (earlier : Earlier) (v : Verdict) (report : List ℕ) → AreAllowed (rules_in passed) words (record_in passed).events
-    → AreFound passed (rack.NoDeal line earlier) → IsTold (verdict.Illegal line (game.NoDeal earlier)) (illegal_line line (game.NoDeal earlier)) v report
-    → IsSettled (rules_in passed) words (record_in passed) v report
-settled_out passed words line earlier v report allowed found told =
-    inr (inr (inr (inl (record { line = line; earlier = earlier; ends = ends_on passed words line earlier allowed found; told = told }))))
-
-pub settled_open : (passed : Passed) (words : List (List ℕ)) (v : Verdict) (report : List ℕ) → AreAllowed (rules_in passed) words (record_in passed).events
-    → AreFound passed rack.Unknown → IsTold verdict.Unsettled unsettled_line v report → IsSettled (rules_in passed) words (record_in passed) v report
-settled_open passed words v report allowed found told = inr (inr (inr (inr (record { unsettled = left_open passed words allowed found; told = told }))))
+pub judged_open : (question : Judging) (rules : Rules) (words : List (List ℕ)) (r : Record) (v : Verdict) (report : List ℕ) → IsFoundBy question rules words r.events finding.Unsettled
+    → IsTold verdict.Unsettled unsettled_line v report → IsJudgedBy question rules words r v report
+judged_open judging.ByRule rules words r v report is told = inr (inr (inr (record { unsettled = is; told = told })))
+judged_open judging.BySearch rules words r v report is told = inr (inr (inr (inr (record { unsettled = is; told = told }))))

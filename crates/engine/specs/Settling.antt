@@ -1,6 +1,7 @@
 -- The settled verdict on the inputs of a game: by any deal that is found, or by a proof that there is none.
 use Rattle.std.specs.Prelude.{◌≡◌, ◌⊎◌, ℕ, Bool, List}
 use Rattle.ref_tiles.specs.declared.rulebook.Rules.{Rules}
+use Rattle.gcg_read.specs.declared.events.Event.{Event}
 use Rattle.gcg_read.specs.declared.records.Record.{Record}
 use Rattle.deal_cuts.specs.declared.earlier.Earlier.{Earlier}
 use Rattle.engine.specs.declared.judging.Judging.{Judging}
@@ -14,6 +15,8 @@ use Rattle.call_stages.specs.Reading.{ReadsNoMore, ReadsList, ReadsLexicon, Read
 use Rattle.call_stages.specs.Reports.{illegal_line}
 use Rattle.call_stages.specs.Telling.{IsTold}
 use Rattle.game_deal.specs.Verdicts.{IsGame, HasNoDealBy}
+use Rattle.game_case.specs.declared.findings.Finding.{Finding}
+use Rattle.game_case.specs.Settling.{IsTriedAs, IsSettledAs}
 
 -- the record is a game, and the report is that of a legal game
 pub record IsSettledLegal (rules : Rules) (words : List (List ℕ)) (r : Record) (v : Verdict) (report : List ℕ) : Type 0 where
@@ -35,7 +38,12 @@ IsSettled rules words r v report =
     IsSettledLegal rules words r v report ⊎ IsRefused rules words r v report ⊎ IsPastBound rules words r v report ⊎ IsUndealt rules words r v report
     ⊎ IsLeftOpen rules words r v report
 
--- the same only by the deal of the rule of completion, or by a search
+-- what is found of events that the rules allow, only by the deal of the rule of completion or by a search
+abbrev pub IsFoundBy : Judging → Rules → (words : List (List ℕ)) → List Event → Finding → Type 0
+IsFoundBy judging.ByRule rules words events f = IsTriedAs rules words events f
+IsFoundBy judging.BySearch rules words events f = IsSettledAs rules words events f
+
+-- what is answered on a record, only by the deal of the rule of completion or by a search
 abbrev pub IsJudgedBy : Judging → Rules → (words : List (List ℕ)) → Record → Verdict → (report : List ℕ) → Type 0
 IsJudgedBy judging.ByRule rules words r v report = IsJudged rules words r v report
 IsJudgedBy judging.BySearch rules words r v report = IsSettled rules words r v report

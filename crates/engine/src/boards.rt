@@ -22,8 +22,8 @@ pub(crate) fn bad_line(alloc: Global) -> Result<Decision, AllocError>
     Decision::refused(alloc, InputFault::Line)
 }
 
-/// The place of a line, or the end of the events.
-pub(crate) fn place_asked(events: &[Event], before: Option<u32>) -> Option<usize>
+/// The place of a line, or the end of the events; none if every event is before the line.
+pub fn place_asked(events: &[Event], before: Option<u32>) -> Option<usize>
     ensures place { result ≡ place_asked events.now before }
     ensures within { IfSome result (λ place. place ≤ length events.now) }
 {

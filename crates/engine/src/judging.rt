@@ -1,9 +1,9 @@
 //! Whether the game of a record is legal, with its report.
-ghost use Rattle.std.specs.Prelude.{IfOk};
+ghost use Rattle.std.specs.Prelude.{ℕ, List, IfOk};
 ghost use Rattle.game_turns.specs.{Passing.{rules_in, record_in}, Places.{AreAllowed}};
 ghost use Rattle.lex_check.specs.Pairs as pairs;
 ghost use Rattle.call_stages.specs.declared.verdicts.Verdict.TheVariants as verdict;
-ghost use Rattle.engine.specs.{Judging.{IsToldBound, IsToldLegal, IsJudged}, Settling.{IsSettled, IsJudgedBy}};
+ghost use Rattle.engine.specs.{Judging.{IsToldLegal}, Settling.{IsFoundBy, IsJudgedBy}};
 ghost use Rattle.call_stages.specs.Telling.{IsTold};
 ghost use Rattle.call_stages.specs.Reports as reports;
 
@@ -11,7 +11,7 @@ use crate::legal_reports::legal_report;
 use call_stages::{
     AskedGame, Decision, GameFault, GameQuestion, Verdict, illegal_line, unsettled_line,
 };
-use game_deal::{DealBound, RackFinding, RackTrial, law_of_bounds, settle_racks, try_racks};
+use game_case::{Finding, settle_passed, try_passed};
 use game_turns::{Passed, play_through};
 use lex_check::Checked;
 use std::alloc::{AllocError, Global};
@@ -53,58 +53,25 @@ fn unsettled(alloc: Global) -> Result<Decision, AllocError>
     })
 }
 
-/// The verdict that a bound is exceeded.
-fn past_bound(alloc: Global, bound: &DealBound) -> Result<Decision, AllocError>
-    ensures { IfOk result (λ d. IsToldBound bound.now d.verdict d.report.items) }
-{
-    match bound {
-        DealBound::RackTooBig { line } => illegal(alloc, *line, GameFault::RackTooBig),
-        DealBound::TilesShort { line, kind } => {
-            illegal(alloc, *line, GameFault::TilesShort(*kind))
-        }
-    }
-}
-
-/// The verdict on a record in which every event is allowed, only by the deal of the rule of completion.
-#[tactic(auto, using(crate::proofs::Settled::judged_dealt, crate::proofs::Settled::judged_past, crate::proofs::Settled::judged_open))]
-fn judge_by_rule(
+/// What is found of a record in which every event is allowed, only by the deal of the rule of completion or by a search.
+///
+/// It fails only if memory runs out.
+pub fn found_by(
     alloc: Global,
     passed: &Passed<'_>,
-    pair: &Checked<'_>,
-) -> Result<Decision, AllocError>
-    requires { AreAllowed (rules_in passed.now) (pairs.list_in pair.now) (record_in passed.now).events }
-    ensures { IfOk result (λ d. IsJudged (rules_in passed.now) (pairs.list_in pair.now) (record_in passed.now) d.verdict d.report.items) }
+    question: Judging,
+) -> Result<Finding, AllocError>
+    ensures { IfOk result (λ f. (words : List (List ℕ)) → AreAllowed (rules_in passed.now) words (record_in passed.now).events
+        → IsFoundBy question (rules_in passed.now) words (record_in passed.now).events f) }
 {
-    law_of_bounds();
-    match try_racks(alloc, passed)? {
-        RackTrial::Dealt => legal(alloc, passed, pair),
-        RackTrial::PastBound(bound) => past_bound(alloc, &bound),
-        RackTrial::Open => unsettled(alloc),
+    match question {
+        Judging::ByRule => try_passed(alloc, passed),
+        Judging::BySearch => settle_passed(alloc, passed),
     }
 }
 
-/// The same by any deal that a search finds, or by a proof that there is none.
-#[tactic(auto, using(crate::proofs::Settled::settled_dealt, crate::proofs::Settled::settled_past, crate::proofs::Settled::settled_out, crate::proofs::Settled::settled_open))]
-fn judge_by_search(
-    alloc: Global,
-    passed: &Passed<'_>,
-    pair: &Checked<'_>,
-) -> Result<Decision, AllocError>
-    requires { AreAllowed (rules_in passed.now) (pairs.list_in pair.now) (record_in passed.now).events }
-    ensures { IfOk result (λ d. IsSettled (rules_in passed.now) (pairs.list_in pair.now) (record_in passed.now) d.verdict d.report.items) }
-{
-    law_of_bounds();
-    match settle_racks(alloc, passed)? {
-        RackFinding::Dealt => legal(alloc, passed, pair),
-        RackFinding::PastBound(bound) => past_bound(alloc, &bound),
-        RackFinding::NoDeal { line, earlier } => {
-            illegal(alloc, line, GameFault::NoDeal { earlier })
-        }
-        RackFinding::Unknown => unsettled(alloc),
-    }
-}
-
-/// The verdict on a record in which every event is allowed.
+/// The verdict on a record in which every event is allowed, by what is found of it.
+#[tactic(auto, using(crate::proofs::Settled::none_found, crate::proofs::Settled::judged_legal, crate::proofs::Settled::judged_illegal, crate::proofs::Settled::judged_open))]
 fn judge_passed(
     alloc: Global,
     passed: &Passed<'_>,
@@ -114,9 +81,11 @@ fn judge_passed(
     requires { AreAllowed (rules_in passed.now) (pairs.list_in pair.now) (record_in passed.now).events }
     ensures { IfOk result (λ d. IsJudgedBy question (rules_in passed.now) (pairs.list_in pair.now) (record_in passed.now) d.verdict d.report.items) }
 {
-    match question {
-        Judging::ByRule => judge_by_rule(alloc, passed, pair),
-        Judging::BySearch => judge_by_search(alloc, passed, pair),
+    match found_by(alloc, passed, question)? {
+        Finding::NoGame => unreachable!(),
+        Finding::Legal { .. } => legal(alloc, passed, pair),
+        Finding::Illegal { line, fault } => illegal(alloc, line, fault),
+        Finding::Unsettled => unsettled(alloc),
     }
 }
 

@@ -31,7 +31,7 @@ mod turn_plays;
 
 pub use asking::run_question;
 pub use best_plays::BestPlays;
-pub use boards::{run_board, run_board_ruled};
+pub use boards::{place_asked, run_board, run_board_ruled};
 pub use building::run_build;
 pub use call_stages::{
     Answer, AskedGame, Decision, Earlier, GameFault, GameQuestion, Given, KnownRules, LexiconFault,
@@ -44,7 +44,7 @@ pub use converting::run_convert;
 pub use game_deal::{RackFinding, RackTrial, settle_racks, try_racks};
 pub use game_report::MOST_PLAYS;
 pub use game_turns::{Passed, play_through};
-pub use judging::Judging;
+pub use judging::{Judging, found_by};
 pub use laws::{
     law_of_conversions, law_of_findings, law_of_illegal, law_of_legal, law_of_legal_games,
     law_of_plain_games, law_of_ruled_games, law_of_settled_games, law_of_undealt_games,
@@ -54,4 +54,4 @@ pub use running::{run, run_ruled, run_settled, run_settled_ruled};
 pub use tidying::run_tidy;
 pub use top_before::{run_top_before, run_top_before_ruled};
 pub use topping::{run_top, run_top_ruled};
-pub use turn_plays::TurnPlays;
+pub use turn_plays::{TurnPlays, rack_asked, shown_rack};

@@ -53,7 +53,7 @@ pub(crate) fn turn_plays(
 }
 
 /// The rack of an event, if it shows one.
-fn shown_rack(event: Option<&Event>) -> Option<Counts>
+pub fn shown_rack(event: Option<&Event>) -> Option<Counts>
     ensures { result ≡ shown_rack (option_copied event.entry) }
 {
     match event {
@@ -62,8 +62,8 @@ fn shown_rack(event: Option<&Event>) -> Option<Counts>
     }
 }
 
-/// The rack of the question: the given one, or else that of the event.
-fn rack_asked(given: Option<Counts>, event: Option<&Event>) -> Option<Counts>
+/// The rack of a question: the given one, or else that of the event.
+pub fn rack_asked(given: Option<Counts>, event: Option<&Event>) -> Option<Counts>
     ensures { result ≡ rack_asked given (option_copied event.entry) }
 {
     match given {

@@ -105,7 +105,7 @@ Because rules list s e what fault.WithdrawnValid =
     (is_withdrawal what ≡ true) × (list_all (is_listed list) (latest_words s.latest) ≡ true) × (is_played s.latest ≡ true)
 Because rules list s e what fault.BonusOnPhony =
     (is_challenge what ≡ true) × (list_any (is_listed list) (latest_words s.latest) ≡ false) × (is_played s.latest ≡ true)
-Because rules list s e what fault.BadBonus = Unit {0}
+Because rules list s e what fault.BadBonus = is_challenge what ≡ true
 Because rules list s e what fault.ExchangeRefused = (is_exchange what ≡ true) × (s.bag < rules.exchange_min)
 Because rules list s e what fault.ExchangeSize =
     (is_exchange what ≡ true) × (((side_of s.sides e.player).rack < exchanged what) ⊎ (s.bag < exchanged what))
@@ -261,17 +261,17 @@ challenge_says rules list s e (played p) is =
     let any = list_any (is_listed list) p.words in
     let wrong = not (is_bonus rules.challenge_unit (listed_in list p.words) e.score) in
     first_says P (fails none fault.BadBonus ∷ fails (not any) fault.BonusOnPhony ∷ fails wrong fault.BadBonus ∷ check_total s e ∷ []) (
-      fails_says P none fault.BadBonus (λ _. tt),
+      fails_says P none fault.BadBonus (λ _. refl),
       (
         fails_says P (not any) fault.BonusOnPhony (λ so. (refl, ap (λ (l : Latest). list_any (is_listed list) (latest_words l)) is ∙ not-true any so, ap is_played is)),
         (
-          fails_says P wrong fault.BadBonus (λ _. tt),
+          fails_says P wrong fault.BadBonus (λ _. refl),
           (total_says rules list s e kind.Challenge, tt),
         ),
       ),
     )
-challenge_says rules list s e (taken_back tiles) is = some_says (Because rules list s e kind.Challenge) fault.BadBonus tt
-challenge_says rules list s e other is = some_says (Because rules list s e kind.Challenge) fault.BadBonus tt
+challenge_says rules list s e (taken_back tiles) is = some_says (Because rules list s e kind.Challenge) fault.BadBonus refl
+challenge_says rules list s e other is = some_says (Because rules list s e kind.Challenge) fault.BadBonus refl
 
 no_penalty : (a b : Bool) → (not a ≡ true) ⊎ (b ≡ true) → (a ≡ false) ⊎ (b ≡ true)
 no_penalty a b (inl so) = inl (not-true a so)
@@ -439,6 +439,9 @@ words_listed rules list s e words is same = ap (λ (ws : List (List ℕ)). list_
 
 pub is_challenge_of : (rules : Rules) (list : List (List ℕ)) (s : State) (e : Event) → fault_in rules list s e ≡ Some fault.BonusOnPhony → is_challenge e.kind ≡ true
 is_challenge_of rules list s e is = (because rules list s e fault.BonusOnPhony is).0
+
+pub bonus_of_challenge : (rules : Rules) (list : List (List ℕ)) (s : State) (e : Event) → fault_in rules list s e ≡ Some fault.BadBonus → is_challenge e.kind ≡ true
+bonus_of_challenge rules list s e is = because rules list s e fault.BadBonus is
 
 pub words_unlisted : (rules : Rules) (list : List (List ℕ)) (s : State) (e : Event) (words : List (List ℕ)) → fault_in rules list s e ≡ Some fault.BonusOnPhony
     → words ≡ latest_words s.latest → list_any (is_listed list) words ≡ false

@@ -55,9 +55,9 @@ abbrev pub IsChallengeTrue : Moment → ChallengeFact → Type 0
 IsChallengeTrue m (challenge_fact.PlayStands line words) = (is_withdrawal m.event.kind ≡ true) × AreWordsBefore m line words.items × AreListed m.list words.items
 IsChallengeTrue m (challenge_fact.NoWordListed line words) = (is_challenge m.event.kind ≡ true) × AreWordsBefore m line words.items × AreUnlisted m.list words.items
 IsChallengeTrue m (challenge_fact.OthersPlay line player other) = IsOthersPlay m line player other
-IsChallengeTrue m (challenge_fact.OthersBonus line player other) = IsOthersPlay m line player other
+IsChallengeTrue m (challenge_fact.OthersBonus line player other) = (is_challenge m.event.kind ≡ true) × IsOthersPlay m line player other
 IsChallengeTrue m (challenge_fact.NothingToTakeBack is_first) = HasNoPlayBefore m is_first
-IsChallengeTrue m (challenge_fact.NothingToChallenge is_first) = HasNoPlayBefore m is_first
+IsChallengeTrue m (challenge_fact.NothingToChallenge is_first) = (is_challenge m.event.kind ≡ true) × HasNoPlayBefore m is_first
 IsChallengeTrue m (challenge_fact.Bonus unit listed amounts written) =
-    (unit ≡ m.rules.challenge_unit) × (listed ≡ listed_in m.list (latest_words m.before.latest))
+    (is_challenge m.event.kind ≡ true) × (unit ≡ m.rules.challenge_unit) × (listed ≡ listed_in m.list (latest_words m.before.latest))
     × (amounts.items ≡ map (λ n. unit * n) (range_with_len 1 listed)) × (written ≡ m.event.score)

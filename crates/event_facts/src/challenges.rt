@@ -105,7 +105,9 @@ pub(crate) fn nothing_to_withdraw(scene: &Scene<'_>) -> Option<Fact>
 }
 
 /// Which bonus a challenge gives, or that there is no play to challenge.
+#[tactic(auto, using(crate::proofs::Because::bonus_of_challenge))]
 pub(crate) fn wrong_bonus(alloc: Global, scene: &Scene<'_>) -> Result<Option<Fact>, AllocError>
+    requires fails { IsRefusedFor (moment_of scene.now) fault.BadBonus }
     ensures told { IfOk result (λ fact. IfSome fact (IsTrue (moment_of scene.now))) }
     ensures named { IfOk result (λ fact. says fault.BadBonus fact ≡ true) }
 {
@@ -133,7 +135,9 @@ fn listed_in(list: &WordList, words: &[Word]) -> usize
 }
 
 /// Which bonus is allowed.
+#[tactic(auto, using(crate::proofs::Because::bonus_of_challenge))]
 fn bonus(alloc: Global, scene: &Scene<'_>) -> Result<Option<Fact>, AllocError>
+    requires fails { IsRefusedFor (moment_of scene.now) fault.BadBonus }
     ensures told { IfOk result (λ fact. IfSome fact (IsTrue (moment_of scene.now))) }
     ensures named { IfOk result (λ fact. says fault.BadBonus fact ≡ true) }
 {

@@ -9,7 +9,7 @@ mod audits;
 mod cases;
 mod exits;
 
-pub use archives::{exit_of_answer, exit_of_line};
+pub use archives::exit_of_answer;
 pub use audits::exit_of_audit;
 pub use cases::exit_of_case;
 pub use exits::{Exit, Trouble};

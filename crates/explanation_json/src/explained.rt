@@ -1,312 +1,113 @@
-//! Explanations as objects.
-ghost use Rattle.std.specs.Prelude.{◌<◌};
+//! Explanations as trees.
+ghost use Rattle.std.specs.Prelude.{◌≡◌, IfOk, option_map};
+ghost use Rattle.std.specs.Option.{option_copied};
+ghost use Rattle.json_trees.specs.Trees.{view};
+ghost use Rattle.json_trees.specs.Values.{or_null};
+ghost use Rattle.explanation_json.specs.Explained.{board_value, explained_object, play_value, told_object, unknown_value};
+ghost use Rattle.explanation_json.specs.Words.{scored_object};
 
-use crate::facts::{FactObject, fact_object};
-use crate::squares::square_name;
+use crate::boards::board_tree;
+use crate::facts::facts_array;
+use crate::words::scored_tree;
 use answer_json::{
-    FaultObject, UnreadObject, push_object, push_verdict, text_of, unread_objects, verdict_fields,
+    ending_tree, fault_line_tree, fault_tree, unread_array, verdict_name, verdict_tree,
 };
 use call_stages::Verdict;
-use explanations::{Explanation, Picture, Shown};
-use game_board::tile_mark;
-use ref_board::{Dir, SIDE, Square};
-use ref_tiles::Premium;
-use serde::Serialize;
-use shown_plays::{PlayedSquare, PlayedWord, ScoredPlay, ShownSquare};
+use explanations::{Explanation, Picture};
+use json_trees::{Tree, count_or_null, count_tree, name_tree, null_tree, object, text_or_null};
+use shown_plays::ScoredPlay;
 use std::alloc::{AllocError, Global};
 use unread_lines::UnreadLine;
 
-/// A square of a word.
-#[derive(Drop, Serialize)]
-struct SquareObject {
-    square: String,
-    tile: String,
-    new: bool,
-    points: u8,
-    premium: Option<&'static str>,
-    factor: u32,
-    adds: u32,
-}
-
-/// A word of a play.
-#[derive(Drop, Serialize)]
-struct WordObject {
-    word: String,
-    listed: bool,
-    squares: Vec<SquareObject>,
-    sum: u32,
-    factor: u32,
-    score: u32,
-}
-
-/// The words of a play, and what they add up to.
-#[derive(Drop, Serialize)]
-struct ScoredPlayObject {
-    words: Vec<WordObject>,
-    bonus: Option<u32>,
-    score: i32,
-}
-
-/// The board before the event.
-#[derive(Drop, Serialize)]
-struct BoardObject {
-    rows: Vec<String>,
-    marked: Vec<String>,
-}
-
-/// An explanation, with an object of the likely repair.
-#[derive(Drop, Serialize)]
-struct ExplanationObject<L> {
-    verdict: &'static str,
-    line: Option<u32>,
-    fault: Option<FaultObject>,
-    ending: Option<&'static str>,
-    explained: Option<u32>,
-    text: Option<String>,
-    facts: Vec<FactObject>,
-    play: Option<ScoredPlayObject>,
-    board: Option<BoardObject>,
-    unknown_since: Option<u32>,
-    likely: Option<L>,
-    unread_lines: Vec<UnreadObject>,
-}
-
-/// That a record has no event.
-#[derive(Drop, Serialize)]
-struct NoGameObject {
-    verdict: &'static str,
-    line: Option<u32>,
-    fault: Option<FaultObject>,
-    unread_lines: Vec<UnreadObject>,
-}
-
-/// The name of a premium.
-fn premium_name(premium: Premium) -> Option<&'static str> {
-    match premium {
-        Premium::Plain => None,
-        Premium::DoubleLetter => Some("double letter"),
-        Premium::TripleLetter => Some("triple letter"),
-        Premium::DoubleWord => Some("double word"),
-        Premium::TripleWord => Some("triple word"),
-    }
-}
-
-/// The letter of a square's tile, small for a blank.
-fn tile_text(alloc: Global, square: &PlayedSquare) -> Result<String, AllocError> {
-    match square.cell {
-        None => text_of(alloc, b""),
-        Some(tile) => text_of(alloc, &[tile_mark(&tile)]),
-    }
-}
-
-/// The squares of a word.
-fn square_objects(
-    alloc: Global,
-    squares: &[PlayedSquare],
-) -> Result<Vec<SquareObject>, AllocError> {
-    let mut objects = Vec::new(alloc);
-    for square in squares {
-        objects.push(SquareObject {
-            square: square_name(alloc, square.square)?,
-            tile: tile_text(alloc, square)?,
-            new: square.is_new,
-            points: square.points,
-            premium: premium_name(square.premium),
-            factor: square.factor,
-            adds: square.adds,
-        })?;
-    }
-    Ok(objects)
-}
-
-/// The words of a play.
-fn word_objects(alloc: Global, words: &[PlayedWord]) -> Result<Vec<WordObject>, AllocError> {
-    let mut objects = Vec::new(alloc);
-    for word in words {
-        objects.push(WordObject {
-            word: text_of(alloc, word.letters.as_slice())?,
-            listed: word.is_listed,
-            squares: square_objects(alloc, word.squares.as_slice())?,
-            sum: word.letters_sum,
-            factor: word.factor,
-            score: word.score,
-        })?;
-    }
-    Ok(objects)
-}
-
-/// The words of a play and what they add up to, if there is a play.
-fn play_object(alloc: Global, shown: &Shown) -> Result<Option<ScoredPlayObject>, AllocError> {
-    match &shown.play {
-        None => Ok(None),
-        Some(play) => Ok(Some(scored_object(alloc, play)?)),
-    }
-}
-
-/// The words of a play, and what they add up to.
-fn scored_object(alloc: Global, play: &ScoredPlay) -> Result<ScoredPlayObject, AllocError> {
-    Ok(ScoredPlayObject {
-        words: word_objects(alloc, play.words.as_slice())?,
-        bonus: play.bonus,
-        score: play.score,
-    })
-}
-
-/// A row of a board as text.
-fn row_text(alloc: Global, squares: &[ShownSquare], row: usize) -> Result<String, AllocError>
-    requires { row < 15 }
+/// The words of a play and what they add up to; null if there is no play.
+fn scored_or_null(alloc: Global, play: &Option<ScoredPlay>) -> Result<Tree, AllocError>
+    ensures { IfOk result (λ tree. view tree ≡ or_null (option_map scored_object play.now)) }
 {
-    let mut marks = Vec::new(alloc);
-    for square in squares.iter().skip(SIDE * row).take(SIDE) {
-        marks.push(square.mark)?;
+    match play {
+        Some(play) => scored_tree(alloc, play),
+        None => Ok(null_tree()),
     }
-    text_of(alloc, marks.as_slice())
 }
 
-/// The rows of a board as text.
-fn row_texts(alloc: Global, squares: &[ShownSquare]) -> Result<Vec<String>, AllocError> {
-    let mut rows = Vec::new(alloc);
-    for row in 0..SIDE {
-        rows.push(row_text(alloc, squares, row)?)?;
-    }
-    Ok(rows)
-}
-
-/// The marked squares of a row.
-fn push_marked(
-    alloc: Global,
-    names: &mut Vec<String>,
-    squares: &[ShownSquare],
-    row: usize,
-) -> Result<(), AllocError>
-    requires { row < 15 }
+/// The words of the play that is shown with the facts; null if there is none.
+fn play_tree(alloc: Global, picture: &Option<Picture>) -> Result<Tree, AllocError>
+    ensures { IfOk result (λ tree. view tree ≡ play_value picture.now) }
 {
-    for column in 0..SIDE {
-        let square = Square::on_line(Dir::Across, row, column);
-        match squares.get(square.number()) {
-            Some(shown) if shown.is_marked => names.push(square_name(alloc, square)?)?,
-            _ => {}
-        }
-    }
-    Ok(())
-}
-
-/// The marked squares of a board.
-fn marked_names(alloc: Global, squares: &[ShownSquare]) -> Result<Vec<String>, AllocError> {
-    let mut names = Vec::new(alloc);
-    for row in 0..SIDE {
-        push_marked(alloc, &mut names, squares, row)?;
-    }
-    Ok(names)
-}
-
-/// What is shown with the facts: the play, the board, or the line of the play that cannot be laid.
-#[derive(Drop)]
-struct PictureObjects {
-    play: Option<ScoredPlayObject>,
-    board: Option<BoardObject>,
-    unknown_since: Option<u32>,
-}
-
-/// What is shown with the facts.
-fn picture_objects(alloc: Global, picture: &Option<Picture>) -> Result<PictureObjects, AllocError> {
     match picture {
-        None => Ok(PictureObjects {
-            play: None,
-            board: None,
-            unknown_since: None,
-        }),
-        Some(Picture::Unknown { line }) => Ok(PictureObjects {
-            play: None,
-            board: None,
-            unknown_since: Some(*line),
-        }),
-        Some(Picture::Shown(shown)) => Ok(PictureObjects {
-            play: play_object(alloc, shown)?,
-            board: Some(BoardObject {
-                rows: row_texts(alloc, shown.squares.as_slice())?,
-                marked: marked_names(alloc, shown.squares.as_slice())?,
-            }),
-            unknown_since: None,
-        }),
+        Some(Picture::Shown(shown)) => scored_or_null(alloc, &shown.play),
+        Some(Picture::Unknown { .. }) | None => Ok(null_tree()),
     }
 }
 
-/// What is said, fact by fact.
-fn fact_objects(alloc: Global, told: &Explanation) -> Result<Vec<FactObject>, AllocError> {
-    let mut objects = Vec::new(alloc);
-    for fact in told.facts.as_slice() {
-        objects.push(fact_object(alloc, fact)?)?;
-    }
-    Ok(objects)
-}
-
-/// A line as it is in the file, if there is one.
-fn line_text(alloc: Global, written: Option<&[u8]>) -> Result<Option<String>, AllocError> {
-    match written {
-        None => Ok(None),
-        Some(written) => Ok(Some(text_of(alloc, written)?)),
+/// The board that is shown with the facts; null if it is not known.
+fn picture_board(alloc: Global, picture: &Option<Picture>) -> Result<Tree, AllocError>
+    ensures { IfOk result (λ tree. view tree ≡ board_value picture.now) }
+{
+    match picture {
+        Some(Picture::Shown(shown)) => board_tree(alloc, shown.squares.as_slice()),
+        Some(Picture::Unknown { .. }) | None => Ok(null_tree()),
     }
 }
 
-/// Appends an explanation: the verdict on the record, the line that is explained as it is in the file, the facts, the words of its play,
-/// the board before it, the likely repair of the record, and the lines that are not read.
-fn push_told<L: Serialize + Drop>(
+/// The line of the play that cannot be laid; null if the board is known, or none is shown.
+fn unknown_tree(picture: &Option<Picture>) -> Tree
+    ensures { view result ≡ unknown_value picture.now }
+{
+    match picture {
+        Some(Picture::Unknown { line }) => count_tree(*line),
+        Some(Picture::Shown(_)) | None => null_tree(),
+    }
+}
+
+/// What explains a record or one of its lines.
+fn told_tree(
     alloc: Global,
-    text: &mut Vec<u8>,
     verdict: &Verdict,
     written: Option<&[u8]>,
     told: &Explanation,
-    likely: Option<L>,
+    likely: Tree,
     unread: &[UnreadLine],
-) -> Result<(), AllocError> {
-    let fields = verdict_fields(alloc, verdict)?;
-    let picture = picture_objects(alloc, &told.picture)?;
-    let object = ExplanationObject {
-        verdict: fields.verdict,
-        line: fields.line,
-        fault: fields.fault,
-        ending: fields.ending,
-        explained: told.line,
-        text: line_text(alloc, written)?,
-        facts: fact_objects(alloc, told)?,
-        play: picture.play,
-        board: picture.board,
-        unknown_since: picture.unknown_since,
-        likely,
-        unread_lines: unread_objects(alloc, unread)?,
-    };
-    push_object(alloc, text, &object)
+) -> Result<Tree, AllocError>
+    ensures { IfOk result (λ tree. view tree ≡ told_object verdict.now (option_copied written.entry) told.now (view likely) unread.now) }
+{
+    let fault = fault_tree(alloc, verdict)?;
+    let written = text_or_null(alloc, written)?;
+    let facts = facts_array(alloc, told.facts.as_slice())?;
+    let play = play_tree(alloc, &told.picture)?;
+    let board = picture_board(alloc, &told.picture)?;
+    let unread = unread_array(alloc, unread)?;
+    let fields = vec![in alloc;
+        ("verdict", name_tree(verdict_name(verdict))),
+        ("line", fault_line_tree(verdict)),
+        ("fault", fault),
+        ("ending", ending_tree(verdict)),
+        ("explained", count_or_null(told.line)),
+        ("text", written),
+        ("facts", facts),
+        ("play", play),
+        ("board", board),
+        ("unknown_since", unknown_tree(&told.picture)),
+        ("likely", likely),
+        ("unread_lines", unread),
+    ]?;
+    Ok(object(fields))
 }
 
-/// Appends what explains a record or one of its lines, by the verdict on the record and the line as it is in the file, with the object of the
-/// likely repair of the record, if there is one, and the lines that are not read; or that no event is on the line or after it.
-pub fn push_explained<L: Serialize + Drop>(
+/// What explains a record or one of its lines, by the verdict on the record and the line as it is in the file, with the object of the likely
+/// repair of the record or null, and the lines that are not read; or that no event is on the line or after it.
+pub fn explained_tree(
     alloc: Global,
-    text: &mut Vec<u8>,
     verdict: &Verdict,
     written: Option<&[u8]>,
     told: Option<&Explanation>,
-    likely: Option<L>,
+    likely: Tree,
     unread: &[UnreadLine],
-) -> Result<(), AllocError> {
+) -> Result<Tree, AllocError>
+    ensures { IfOk result (λ tree. view tree
+        ≡ explained_object verdict.now (option_copied written.entry) (option_copied told.entry) (view likely) unread.now) }
+{
     match told {
-        None => push_verdict(alloc, text, &Verdict::BadLine),
-        Some(told) => push_told(alloc, text, verdict, written, told, likely, unread),
+        Some(told) => told_tree(alloc, verdict, written, told, likely, unread),
+        None => verdict_tree(alloc, &Verdict::BadLine),
     }
-}
-
-/// Appends that a record has no event, with the lines that are not read.
-pub fn push_no_game(
-    alloc: Global,
-    text: &mut Vec<u8>,
-    unread: &[UnreadLine],
-) -> Result<(), AllocError> {
-    let object = NoGameObject {
-        verdict: "no game",
-        line: None,
-        fault: None,
-        unread_lines: unread_objects(alloc, unread)?,
-    };
-    push_object(alloc, text, &object)
 }

@@ -1,4 +1,7 @@
-//! Facts as objects, by families. Each has the name of its case and the fields that it needs.
+//! Facts as trees, by families. Each has the name of its case and the fields that it needs.
+ghost use Rattle.std.specs.Prelude.{◌≡◌, IfOk};
+ghost use Rattle.json_trees.specs.Trees.{view};
+ghost use Rattle.explanation_json.specs.Facts.{fact_object, facts_value};
 
 mod challenges;
 mod deals;
@@ -13,54 +16,49 @@ mod tiles;
 mod totals;
 mod turns;
 
-use crate::facts::challenges::ChallengeObject;
-use crate::facts::deals::DealObject;
-use crate::facts::games::GameObject;
-use crate::facts::orders::OrderObject;
-use crate::facts::plays::PlayObject;
-use crate::facts::racks::RackObject;
-use crate::facts::readings::ReadingObject;
-use crate::facts::rulings::RulingObject;
-use crate::facts::scores::ScoreObject;
-use crate::facts::tiles::TileObject;
-use crate::facts::totals::TotalObject;
-use crate::facts::turns::TurnObject;
+use crate::facts::challenges::challenge_tree;
+use crate::facts::deals::deal_tree;
+use crate::facts::games::game_tree;
+use crate::facts::orders::order_tree;
+use crate::facts::plays::play_tree;
+use crate::facts::racks::rack_tree;
+use crate::facts::readings::reading_tree;
+use crate::facts::rulings::ruling_tree;
+use crate::facts::scores::score_tree;
+use crate::facts::tiles::tile_tree;
+use crate::facts::totals::total_tree;
+use crate::facts::turns::turn_tree;
 use event_facts::Fact;
-use serde::Serialize;
+use json_trees::{Tree, array};
 use std::alloc::{AllocError, Global};
 
 /// A fact.
-#[derive(Drop, Serialize)]
-#[serde(untagged)]
-pub enum FactObject {
-    Game(GameObject),
-    Ruling(RulingObject),
-    Turn(TurnObject),
-    Order(OrderObject),
-    Play(PlayObject),
-    Score(ScoreObject),
-    Reading(ReadingObject),
-    Total(TotalObject),
-    Challenge(ChallengeObject),
-    Tile(TileObject),
-    Rack(RackObject),
-    Deal(DealObject),
+fn fact_tree(alloc: Global, fact: &Fact) -> Result<Tree, AllocError>
+    ensures { IfOk result (λ tree. view tree ≡ fact_object fact.now) }
+{
+    match fact {
+        Fact::Game(it) => game_tree(alloc, it),
+        Fact::Ruling(it) => ruling_tree(alloc, it),
+        Fact::Turn(it) => turn_tree(alloc, it),
+        Fact::Order(it) => order_tree(alloc, it),
+        Fact::Play(it) => play_tree(alloc, it),
+        Fact::Score(it) => score_tree(alloc, it),
+        Fact::Reading(it) => reading_tree(alloc, it),
+        Fact::Total(it) => total_tree(alloc, it),
+        Fact::Challenge(it) => challenge_tree(alloc, it),
+        Fact::Tile(it) => tile_tree(alloc, it),
+        Fact::Rack(it) => rack_tree(alloc, it),
+        Fact::Deal(it) => deal_tree(alloc, it),
+    }
 }
 
-/// A fact.
-pub fn fact_object(alloc: Global, fact: &Fact) -> Result<FactObject, AllocError> {
-    Ok(match fact {
-        Fact::Game(fact) => FactObject::Game(GameObject::of(alloc, fact)?),
-        Fact::Ruling(fact) => FactObject::Ruling(RulingObject::of(fact)),
-        Fact::Turn(fact) => FactObject::Turn(TurnObject::of(fact)),
-        Fact::Order(fact) => FactObject::Order(OrderObject::of(alloc, fact)?),
-        Fact::Play(fact) => FactObject::Play(PlayObject::of(alloc, fact)?),
-        Fact::Score(fact) => FactObject::Score(ScoreObject::of(alloc, fact)?),
-        Fact::Reading(fact) => FactObject::Reading(ReadingObject::of(alloc, fact)?),
-        Fact::Total(fact) => FactObject::Total(TotalObject::of(fact)),
-        Fact::Challenge(fact) => FactObject::Challenge(ChallengeObject::of(alloc, fact)?),
-        Fact::Tile(fact) => FactObject::Tile(TileObject::of(fact)),
-        Fact::Rack(fact) => FactObject::Rack(RackObject::of(alloc, fact)?),
-        Fact::Deal(fact) => FactObject::Deal(DealObject::of(alloc, fact)?),
-    })
+/// Facts, in their order.
+pub fn facts_array(alloc: Global, facts: &[Fact]) -> Result<Tree, AllocError>
+    ensures { IfOk result (λ tree. view tree ≡ facts_value facts.now) }
+{
+    let mut trees = Vec::new(alloc);
+    for fact in facts {
+        trees.push(fact_tree(alloc, fact)?)?;
+    }
+    Ok(array(trees))
 }

@@ -1,14 +1,14 @@
-//! Explanations as JSON, for programs: one object and an LF for each.
+//! Explanations as trees, for programs.
 //!
-//! [`push_explained`] takes the value that `explanations` makes and gives bytes, as `answer_json` does for all other answers. It does not ask the engine,
-//! add numbers or look at a record. The verdict comes first, then the line and each fact with its name and its numbers, and then the words of
-//! the play and the board.
+//! [`explained_tree`] takes the value that `explanations` makes; its contract says that the tree is exactly the object that `specs/` defines for it. It does not ask the engine, add numbers or look at a record. The verdict comes first, then the line and each fact with its name
+//! and its numbers, and then the words of the play and the board.
 #![tactic(auto)]
 
+mod boards;
 mod explained;
 mod fact_lines;
 mod fact_parts;
 mod facts;
-mod squares;
+mod words;
 
-pub use explained::{push_explained, push_no_game};
+pub use explained::explained_tree;

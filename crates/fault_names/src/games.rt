@@ -1,7 +1,7 @@
 //! The faults of a game by their names.
 ghost use Rattle.std.specs.Prelude.{◌≡◌};
 ghost use Rattle.call_stages.specs.Reports.{rule_text, fault_text};
-ghost use Rattle.fault_names.specs.Named.{named_text};
+ghost use Rattle.fault_names.specs.Named.{named_fault, named_rule, named_text};
 
 use crate::named::NamedFault;
 use crate::names::FaultName;
@@ -10,7 +10,8 @@ use game_turns::RuleFault;
 
 /// A fault of the rules by its name.
 fn named_rule_fault(fault: &RuleFault) -> NamedFault
-    ensures { named_text result ≡ rule_text fault.now }
+    ensures parts { result ≡ named_rule fault.now }
+    ensures text { named_text result ≡ rule_text fault.now }
 {
     match fault {
         RuleFault::NotYourTurn => NamedFault::bare(FaultName::NotYourTurn),
@@ -34,16 +35,13 @@ fn named_rule_fault(fault: &RuleFault) -> NamedFault
 /// A fault of a game by its name, with the number that was expected or the kind of tile that is short: the parts from which a report makes
 /// the text of the fault.
 pub fn named_game_fault(fault: &GameFault) -> NamedFault
-    ensures { named_text result ≡ fault_text fault.now }
+    ensures parts { result ≡ named_fault fault.now }
+    ensures text { named_text result ≡ fault_text fault.now }
 {
     match fault {
         GameFault::Rule(rule) => named_rule_fault(rule),
         GameFault::RackTooBig => NamedFault::bare(FaultName::RackTooBig),
-        GameFault::TilesShort(kind) => NamedFault {
-            name: FaultName::TilesShort,
-            expected: None,
-            kind: Some(*kind),
-        },
+        GameFault::TilesShort(kind) => NamedFault::short_of(FaultName::TilesShort, *kind),
         GameFault::NoDeal { .. } => NamedFault::bare(FaultName::NoDeal),
     }
 }

@@ -1,8 +1,8 @@
 //! The faults of inputs by their names.
-ghost use Rattle.std.specs.Prelude.{◌≡◌, ◌++◌, ◌∷◌, [], codes, map};
+ghost use Rattle.std.specs.Prelude.{◌≡◌, ◌++◌, ◌∷◌, [], codes, map, Some, None};
 ghost use Rattle.lex_check.specs.Checks.{symbol_of};
 ghost use Rattle.call_stages.specs.Reports.{line_text, bad_file_line};
-ghost use Rattle.fault_names.specs.Inputs.{input_text, IsNamedInput};
+ghost use Rattle.fault_names.specs.Inputs.{fault_name_of, HasParts, input_text, IsNamedInput, lexicon_name, lexicon_path, line_of, path_of, what_of};
 
 use arrayvec::ArrayVec;
 use call_stages::{InputFault, LexiconFault};
@@ -23,7 +23,8 @@ pub struct NamedInput {
 
 /// A fault on a line of an input.
 fn on_line(what: &'static str, line: u32, name: &'static str) -> NamedInput
-    ensures { input_text result ≡ what.now ++ line_text line ++ codes ": " ++ name.now ++ 10 ∷ [] }
+    ensures parts { HasParts what.now line (Some name.now) None result }
+    ensures text { input_text result ≡ what.now ++ line_text line ++ codes ": " ++ name.now ++ 10 ∷ [] }
 {
     NamedInput {
         what,
@@ -35,7 +36,8 @@ fn on_line(what: &'static str, line: u32, name: &'static str) -> NamedInput
 
 /// A fault of a lexicon.
 fn in_lexicon(name: &'static str) -> NamedInput
-    ensures { input_text result ≡ codes "bad lexicon: " ++ name.now ++ 10 ∷ [] }
+    ensures parts { HasParts (codes "bad lexicon") 0 (Some name.now) None result }
+    ensures text { input_text result ≡ codes "bad lexicon: " ++ name.now ++ 10 ∷ [] }
 {
     NamedInput {
         what: "bad lexicon",
@@ -47,7 +49,8 @@ fn in_lexicon(name: &'static str) -> NamedInput
 
 /// A path at which a lexicon and a list differ.
 fn at_path(name: &'static str, path: &Path) -> NamedInput
-    ensures { input_text result ≡ codes "bad lexicon: " ++ name.now ++ 32 ∷ map symbol_of path.now.items ++ 10 ∷ [] }
+    ensures parts { HasParts (codes "bad lexicon") 0 (Some name.now) (Some (map symbol_of path.now.items)) result }
+    ensures text { input_text result ≡ codes "bad lexicon: " ++ name.now ++ 32 ∷ map symbol_of path.now.items ++ 10 ∷ [] }
 {
     NamedInput {
         what: "bad lexicon",
@@ -60,7 +63,7 @@ fn at_path(name: &'static str, path: &Path) -> NamedInput
 /// That something requested does not exist.
 fn nameless(what: &'static str) -> NamedInput
     ensures text { input_text result ≡ what.now ++ 10 ∷ [] }
-    ensures what { result.what.now ≡ what.now }
+    ensures parts { HasParts what.now 0 None None result }
 {
     NamedInput {
         what,
@@ -73,7 +76,8 @@ fn nameless(what: &'static str) -> NamedInput
 /// What is wrong with a lexicon, by its name.
 #[tactic(auto, unfolding(call_stages::specs::Reports::bad_file_line))]
 fn named_lexicon(fault: &LexiconFault) -> NamedInput
-    ensures { input_text result ≡ bad_file_line fault.now }
+    ensures parts { HasParts (codes "bad lexicon") 0 (Some (lexicon_name fault.now)) (lexicon_path fault.now) result }
+    ensures text { input_text result ≡ bad_file_line fault.now }
 {
     match fault {
         LexiconFault::Form(first) => in_lexicon(first.name()),
@@ -86,7 +90,8 @@ fn named_lexicon(fault: &LexiconFault) -> NamedInput
 /// What is wrong with an input, by its name: the parts from which a report makes its line.
 #[tactic(auto, unfolding(call_stages::specs::Reports::bad_list_line, call_stages::specs::Reports::bad_rules_line, call_stages::specs::Reports::bad_record_line, call_stages::specs::Reports::too_many_arcs_line, call_stages::specs::Reports::bad_rack_line))]
 pub fn named_input(fault: &InputFault) -> NamedInput
-    ensures { IsNamedInput fault.now result }
+    ensures parts { HasParts (what_of fault.now) (line_of fault.now) (fault_name_of fault.now) (path_of fault.now) result }
+    ensures text { IsNamedInput fault.now result }
 {
     match fault {
         InputFault::Words(first) => on_line("bad word list", first.line, first.why.name()),

@@ -15,12 +15,12 @@ pub struct NamedFault {
 }
 
 impl NamedFault {
-    ghost use Rattle.std.specs.Prelude.{◌≡◌, Some, None};
-    ghost use Rattle.fault_names.specs.Named.{IsBare};
+    ghost use Rattle.std.specs.Prelude.{◌≡◌};
+    ghost use Rattle.fault_names.specs.Named.{bare, expecting, short_of};
 
     /// A fault of this name, with nothing after it.
     pub(crate) fn bare(name: FaultName) -> NamedFault
-        ensures { IsBare name result }
+        ensures { result ≡ bare name }
     {
         NamedFault {
             name,
@@ -31,14 +31,23 @@ impl NamedFault {
 
     /// A fault of this name, with the number that was expected.
     pub(crate) fn expecting(name: FaultName, expected: i32) -> NamedFault
-        ensures name { result.name ≡ name }
-        ensures expected { result.expected ≡ Some expected }
-        ensures kind { result.kind ≡ None }
+        ensures { result ≡ expecting name expected }
     {
         NamedFault {
             name,
             expected: Some(expected),
             kind: None,
+        }
+    }
+
+    /// A fault of this name, with the kind of tile that is short.
+    pub(crate) fn short_of(name: FaultName, kind: Kind) -> NamedFault
+        ensures { result ≡ short_of name kind }
+    {
+        NamedFault {
+            name,
+            expected: None,
+            kind: Some(kind),
         }
     }
 }

@@ -8,8 +8,8 @@ use Rattle.game_turns.specs.declared.machine.Machine.{Machine}
 use Rattle.game_turns.specs.LatestEvents.{latest_tiles, standing_words}
 use Rattle.game_turns.specs.Machines.{rules_of, state_of}
 use Rattle.game_turns.specs.Tallies.{State, tally, tally_at}
-use Rattle.game_notes.specs.declared.following.Follow.{Follow}
-use Rattle.game_notes.specs.Following.{Follows}
+use Rattle.known_bests.specs.declared.besides.Beside.{Beside}
+use Rattle.known_bests.specs.Besides.{IsBeside}
 use Rattle.game_report.proofs.ReportLines.{start_of_game, read_there}
 use Rattle.game_answers.specs.declared.answers.EventAnswer.{EventAnswer}
 use Rattle.event_notes.specs.declared.bests.TurnBest.{TurnBest}
@@ -110,5 +110,5 @@ none_taken rules own events machine same by start =
     record { own = by ∙ same; state = start_of_game rules events (state_of machine) (start ∙ ap (λ r. tally r false []) same) }
 
 -- a board by equal rules
-pub follows_too : (rules own : Rules) (list : List (List ℕ)) (follow : Follow) → own ≡ rules → Follows own list follow → Follows rules list follow
-follows_too rules own list follow same follows = subst (λ r. Follows r list follow) same follows
+pub beside_too : (rules own : Rules) (list : List (List ℕ)) (beside : Beside) → own ≡ rules → IsBeside own list beside → IsBeside rules list beside
+beside_too rules own list beside same is = subst (λ r. IsBeside r list beside) same is

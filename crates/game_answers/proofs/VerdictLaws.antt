@@ -4,30 +4,22 @@ use Rattle.ref_tiles.specs.declared.rulebook.Rules.{Rules}
 use Rattle.gcg_read.specs.declared.events.Event.{Event}
 use Rattle.gcg_read.specs.declared.records.Record.{Record}
 use Rattle.game_turns.specs.declared.faults.RuleFault.{RuleFault}
-use Rattle.game_turns.specs.declared.passed.Passed.{Passed}
-use Rattle.game_turns.specs.Passing.{rules_in, record_in}
 use Rattle.game_turns.specs.Places.{AreAllowed, IsFirstRefusal}
-use Rattle.deal_steps.specs.declared.faults.DealBound.{DealBound}
-use Rattle.deal_steps.specs.declared.faults.DealBound.TheVariants as deal
-use Rattle.deal_cuts.specs.declared.earlier.Earlier.{Earlier}
-use Rattle.game_deal.specs.Laws.{FittingIsBounded}
-use Rattle.call_stages.specs.declared.verdicts.GameFault.TheVariants as game
 use Rattle.call_stages.specs.declared.verdicts.Verdict.{Verdict}
 use Rattle.call_stages.specs.declared.verdicts.Verdict.TheVariants as verdict
 use Rattle.engine.specs.declared.judging.Judging.{Judging}
-use Rattle.engine.specs.declared.judging.Judging.TheVariants as judging
-use Rattle.game_deal.specs.declared.racks.RackFinding.TheVariants as rack
-use Rattle.game_deal.specs.declared.racks.RackTrial.TheVariants as trial
-use Rattle.engine.specs.Judging.{IsToldBound, IsToldLegal}
-use Rattle.engine.specs.Settling.{IsJudgedBy}
-use Rattle.game_deal.specs.Racks.{AreTried, AreFound}
+use Rattle.game_case.specs.declared.findings.Finding.{Finding}
+use Rattle.game_case.specs.declared.findings.Finding.TheVariants as finding
+use Rattle.game_case.specs.Explaining.{verdict_in}
+use Rattle.engine.specs.Judging.{IsToldLegal}
+use Rattle.engine.specs.Settling.{IsFoundBy, IsJudgedBy}
 use Rattle.game_turns.proofs.PlaceLaws.{first_not_allowed}
 use Rattle.engine.proofs.Settled as settled
 use Rattle.game_report.specs.EventLines.{AreEventLines}
 use Rattle.game_answers.specs.declared.answers.EventAnswer.{EventAnswer}
 use Rattle.game_answers.specs.declared.leaving.GameAnswers.{GameAnswers}
 use Rattle.game_answers.specs.Answers.{AreAnswersTo}
-use Rattle.game_answers.specs.Bounds.{bound_verdict, legal_verdict, refused_verdict}
+use Rattle.game_answers.specs.Bounds.{legal_verdict, refused_verdict}
 use Rattle.game_answers.specs.Games.{IsVerdictOn, IsVerdict, AreAnswered, IsJudged, report_of}
 use Rattle.game_answers.specs.Leaving.{AreLeft}
 use Rattle.game_answers.specs.Reports.{lines_to, report_by}
@@ -40,53 +32,24 @@ legal_told : (rules : Rules) (words : List (List ℕ)) (r : Record) (v : Verdict
 legal_told rules words r v lines is are =
     record { verdict_is = is; told = record { told = lines; is_told = are; behind = ap (λ (x : Verdict). report_by x lines) is } }
 
-bound_told : (bound : DealBound) (v : Verdict) (lines : List ℕ) → v ≡ bound_verdict bound → IsToldBound bound v (report_by v lines)
-bound_told (deal.RackTooBig line) v lines is = record { verdict_is = is; told = ap (λ (x : Verdict). report_by x lines) is }
-bound_told (deal.TilesShort line kind) v lines is = record { verdict_is = is; told = ap (λ (x : Verdict). report_by x lines) is }
+verdict_of : (question : Judging) (rules : Rules) (words : List (List ℕ)) (r : Record) (f : Finding) → IsFoundBy question rules words r.events f
+    → IsVerdictOn question rules words r (verdict_in f)
+verdict_of question rules words r finding.NoGame is = absurd (settled.none_found question rules words r.events is)
+verdict_of question rules words r (finding.Legal complete) is =
+    let v = verdict.Legal complete in
+    let same : v ≡ legal_verdict rules r.events = ap (λ (b : Bool). verdict.Legal b) (settled.found_complete question rules words r.events complete is) in
+    record { judged = λ lines are. settled.judged_legal question rules words r complete v (report_by v lines) is (legal_told rules words r v lines same are) }
+verdict_of question rules words r (finding.Illegal line fault) is =
+    let v = verdict.Illegal line fault in
+    record { judged = λ lines are. settled.judged_illegal question rules words r line fault v (report_by v lines) is (record { verdict_is = refl; told = refl }) }
+verdict_of question rules words r finding.Unsettled is =
+    let v = verdict.Unsettled in
+    record { judged = λ lines are. settled.judged_open question rules words r v (report_by v lines) is (record { verdict_is = refl; told = refl }) }
 
--- ---- by the deal of the rule
-
-pub rule_dealt : (passed : Passed) (words : List (List ℕ)) (v : Verdict) → AreAllowed (rules_in passed) words (record_in passed).events → AreTried passed trial.Dealt
-    → v ≡ legal_verdict (rules_in passed) (record_in passed).events → IsVerdictOn judging.ByRule (rules_in passed) words (record_in passed) v
-rule_dealt passed words v allowed dealt is =
-    record {
-      judged = λ lines are. settled.judged_dealt passed words v (report_by v lines) allowed dealt (legal_told (rules_in passed) words (record_in passed) v lines is are);
-    }
-
-pub rule_past : FittingIsBounded → (passed : Passed) (words : List (List ℕ)) (bound : DealBound) (v : Verdict) → AreAllowed (rules_in passed) words (record_in passed).events
-    → AreTried passed (trial.PastBound bound) → v ≡ bound_verdict bound → IsVerdictOn judging.ByRule (rules_in passed) words (record_in passed) v
-rule_past law passed words bound v allowed past is =
-    record { judged = λ lines are. settled.judged_past law passed words bound v (report_by v lines) allowed past (bound_told bound v lines is) }
-
-pub rule_open : (passed : Passed) (words : List (List ℕ)) → AreAllowed (rules_in passed) words (record_in passed).events → AreTried passed trial.Open
-    → IsVerdictOn judging.ByRule (rules_in passed) words (record_in passed) verdict.Unsettled
-rule_open passed words allowed left =
-    record { judged = λ lines are. settled.judged_open passed words verdict.Unsettled (report_by verdict.Unsettled lines) allowed left (record { verdict_is = refl; told = refl }) }
-
--- ---- by a search
-
-pub search_dealt : (passed : Passed) (words : List (List ℕ)) (v : Verdict) → AreAllowed (rules_in passed) words (record_in passed).events → AreFound passed rack.Dealt
-    → v ≡ legal_verdict (rules_in passed) (record_in passed).events → IsVerdictOn judging.BySearch (rules_in passed) words (record_in passed) v
-search_dealt passed words v allowed dealt is =
-    record {
-      judged = λ lines are. settled.settled_dealt passed words v (report_by v lines) allowed dealt (legal_told (rules_in passed) words (record_in passed) v lines is are);
-    }
-
-pub search_past : FittingIsBounded → (passed : Passed) (words : List (List ℕ)) (bound : DealBound) (v : Verdict) → AreAllowed (rules_in passed) words (record_in passed).events
-    → AreFound passed (rack.PastBound bound) → v ≡ bound_verdict bound → IsVerdictOn judging.BySearch (rules_in passed) words (record_in passed) v
-search_past law passed words bound v allowed past is =
-    record { judged = λ lines are. settled.settled_past law passed words bound v (report_by v lines) allowed past (bound_told bound v lines is) }
-
-pub search_out : (passed : Passed) (words : List (List ℕ)) (line : ℕ) (earlier : Earlier) → AreAllowed (rules_in passed) words (record_in passed).events
-    → AreFound passed (rack.NoDeal line earlier) → IsVerdictOn judging.BySearch (rules_in passed) words (record_in passed) (verdict.Illegal line (game.NoDeal earlier))
-search_out passed words line earlier allowed found =
-    let v = verdict.Illegal line (game.NoDeal earlier) in
-    record { judged = λ lines are. settled.settled_out passed words line earlier v (report_by v lines) allowed found (record { verdict_is = refl; told = refl }) }
-
-pub search_open : (passed : Passed) (words : List (List ℕ)) → AreAllowed (rules_in passed) words (record_in passed).events → AreFound passed rack.Unknown
-    → IsVerdictOn judging.BySearch (rules_in passed) words (record_in passed) verdict.Unsettled
-search_open passed words allowed left =
-    record { judged = λ lines are. settled.settled_open passed words verdict.Unsettled (report_by verdict.Unsettled lines) allowed left (record { verdict_is = refl; told = refl }) }
+-- the verdict on a record in which the rules allow every event, by what is found of it
+pub verdict_by : (question : Judging) (rules : Rules) (words : List (List ℕ)) (r : Record) (f : Finding) (v : Verdict) → IsFoundBy question rules words r.events f → v ≡ verdict_in f
+    → IsVerdictOn question rules words r v
+verdict_by question rules words r f v is same = subst (λ (x : Verdict). IsVerdictOn question rules words r x) (sym same) (verdict_of question rules words r f is)
 
 -- ---- with the answers of the events
 

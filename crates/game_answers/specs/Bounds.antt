@@ -4,16 +4,9 @@ use Rattle.ref_tiles.specs.declared.rulebook.Rules.{Rules}
 use Rattle.gcg_read.specs.declared.events.Event.{Event}
 use Rattle.game_turns.specs.declared.faults.RuleFault.{RuleFault}
 use Rattle.game_turns.specs.Places.{is_finished}
-use Rattle.deal_steps.specs.declared.faults.DealBound.{DealBound}
-use Rattle.deal_steps.specs.declared.faults.DealBound.TheVariants as deal
 use Rattle.call_stages.specs.declared.verdicts.GameFault.TheVariants as game
 use Rattle.call_stages.specs.declared.verdicts.Verdict.{Verdict}
 use Rattle.call_stages.specs.declared.verdicts.Verdict.TheVariants as verdict
-
--- that a bound is exceeded
-abbrev pub bound_verdict : DealBound → Verdict
-bound_verdict (deal.RackTooBig line) = verdict.Illegal line game.RackTooBig
-bound_verdict (deal.TilesShort line kind) = verdict.Illegal line (game.TilesShort kind)
 
 -- that the game is legal, and whether it has ended
 abbrev pub legal_verdict : Rules → List Event → Verdict

@@ -1,11 +1,10 @@
 //! What is answered for each event.
-ghost use Rattle.std.specs.Prelude.{◌≡◌, ◌<◌, ◌+◌, length, slice_get, IfOk, OnOk};
-ghost use Rattle.std.specs.Option.{option_copied};
+ghost use Rattle.std.specs.Prelude.{◌≡◌, ◌<◌, ◌+◌, length, IfOk, OnOk};
 ghost use Rattle.game_turns.specs.LatestEvents.{latest_tiles, standing_words};
 ghost use Rattle.game_turns.specs.Machines.{rules_of, state_of};
 ghost use Rattle.game_turns.specs.Passing.{rules_in, record_in};
 ghost use Rattle.lex_check.specs.Pairs.{list_in};
-ghost use Rattle.game_notes.specs.Following.{Follows};
+ghost use Rattle.known_bests.specs.Besides.{IsBeside};
 ghost use Rattle.known_bests.specs.Known.{AreKnown};
 ghost use Rattle.game_answers.specs.Going.{HasTaken};
 ghost use Rattle.score_sheets.specs.Gains.{given_at};
@@ -14,17 +13,16 @@ ghost use Rattle.game_answers.specs.Letters.{word_of};
 ghost use Rattle.event_notes.specs.Bests.{IsTurnBest};
 ghost use Rattle.event_notes.specs.Unlisted.{letters_in, unlisted_of};
 
-use crate::besides::Beside;
 use crate::copies::copied;
 use crate::letters::word_of;
 use event_notes::{SpelledWord, TurnBest, unlisted_of};
-use game_turns::{Machine, Passed, withdraws};
+use game_turns::{Machine, Passed};
 use gcg_read::Event;
-use known_bests::{KnownBests, find_best_of_turn, known_best_of_turn};
+use known_bests::{Beside, KnownBests};
 use lex_check::Checked;
 use lex_list::WordList;
 use ref_play::{Play, Word};
-use score_sheets::given_by;
+use score_sheets::{given_by, is_taken_back};
 use std::alloc::{AllocError, Global};
 
 /// What is answered for an event.
@@ -40,50 +38,16 @@ pub struct EventAnswer {
     pub unlisted: Vec<SpelledWord>,
 }
 
-/// The event after a place, if there is one.
-#[tactic(auto, using(game_turns::proofs::PlaceLaws::copied_get))]
-pub(crate) fn event_behind(events: &[Event], place: usize) -> Option<&Event>
-    requires { place < length events.now }
-    ensures { option_copied result ≡ slice_get events.now (place + 1) }
-{
-    events.get(place + 1)
-}
-
 /// What the event at a place gave: its score; and nothing if it is a play that the next event takes back.
 fn given_at(events: &[Event], place: usize, event: &Event) -> i32
     requires { place < length events.now }
     ensures { result ≡ given_at events.now place event.now }
 {
-    given_by(withdraws(event_behind(events, place)), event.score)
-}
-
-/// What is said of the best play of an event of the record that gave `gave` points, by a search; `machine` is before it. The board beside the game
-/// is updated up to the event.
-#[tactic(auto, using(crate::proofs::AnswerLaws::best_by_own))]
-fn find_best_at(
-    passed: &Passed<'_>,
-    pair: &Checked<'_>,
-    machine: &Machine,
-    beside: &mut Beside,
-    known: &mut KnownBests,
-    place: usize,
-    event: &Event,
-    gave: i32,
-) -> TurnBest
-    requires place { place < length (record_in passed.now).events }
-    requires follows { Follows (rules_in passed.now) (list_in pair.now) beside.old.follow }
-    requires known { AreKnown (rules_in passed.now) (list_in pair.now) known.old }
-    ensures follows { Follows (rules_in passed.now) (list_in pair.now) beside.new.follow }
-    ensures known { AreKnown (rules_in passed.now) (list_in pair.now) known.new }
-    ensures best { IsTurnBest (rules_in passed.now) (list_in pair.now) (state_of machine.now) event.now gave result }
-{
-    let rules = passed.rules();
-    let events = passed.record().events.as_slice();
-    beside.catch_up(rules, pair, events, place);
-    find_best_of_turn(rules, pair, machine, &beside.follow, event, gave, known)
+    given_by(is_taken_back(events, place), event.score)
 }
 
 /// What is said of the best play of an event of the record that gave `gave` points; `machine` is before it. It searches only for what is not known.
+#[tactic(auto, using(crate::proofs::AnswerLaws::best_by_own))]
 fn best_at(
     passed: &Passed<'_>,
     pair: &Checked<'_>,
@@ -95,16 +59,23 @@ fn best_at(
     gave: i32,
 ) -> TurnBest
     requires place { place < length (record_in passed.now).events }
-    requires follows { Follows (rules_in passed.now) (list_in pair.now) beside.old.follow }
+    requires beside { IsBeside (rules_in passed.now) (list_in pair.now) beside.old }
     requires known { AreKnown (rules_in passed.now) (list_in pair.now) known.old }
-    ensures follows { Follows (rules_in passed.now) (list_in pair.now) beside.new.follow }
+    ensures beside { IsBeside (rules_in passed.now) (list_in pair.now) beside.new }
     ensures known { AreKnown (rules_in passed.now) (list_in pair.now) known.new }
     ensures best { IsTurnBest (rules_in passed.now) (list_in pair.now) (state_of machine.now) event.now gave result }
 {
-    if let Some(best) = known_best_of_turn(known, machine, event, gave) {
-        return best;
-    }
-    find_best_at(passed, pair, machine, beside, known, place, event, gave)
+    let events = passed.record().events.as_slice();
+    beside.best_at(
+        passed.rules(),
+        pair,
+        machine,
+        events,
+        place,
+        event,
+        gave,
+        known,
+    )
 }
 
 /// What is answered for an event, by its best play and the machine after it.
@@ -142,10 +113,10 @@ fn answer_at(
 ) -> Result<EventAnswer, AllocError>
     requires place { place < length (record_in passed.now).events }
     requires taken { HasTaken (rules_in passed.now) (record_in passed.now).events place machine.old }
-    requires follows { Follows (rules_in passed.now) (list_in pair.now) beside.old.follow }
+    requires beside { IsBeside (rules_in passed.now) (list_in pair.now) beside.old }
     requires known { AreKnown (rules_in passed.now) (list_in pair.now) known.old }
     ensures taken { OnOk result (HasTaken (rules_in passed.now) (record_in passed.now).events (place + 1) machine.new) }
-    ensures follows { Follows (rules_in passed.now) (list_in pair.now) beside.new.follow }
+    ensures beside { IsBeside (rules_in passed.now) (list_in pair.now) beside.new }
     ensures known { AreKnown (rules_in passed.now) (list_in pair.now) known.new }
     ensures answer { IfOk result (IsAnswerAt (rules_in passed.now) (list_in pair.now) (record_in passed.now).events place) }
 {
@@ -164,7 +135,7 @@ fn answer_at(
 ///
 /// It fails only if memory runs out.
 #[tactic(auto, using(crate::proofs::AnswerLaws::answers_more))]
-pub fn answers_with(
+pub(crate) fn answers_with(
     alloc: Global,
     passed: &Passed<'_>,
     pair: &Checked<'_>,
@@ -184,20 +155,4 @@ pub fn answers_with(
         answers.push(answer)?;
     }
     Ok(answers)
-}
-
-/// The same if no best play is known.
-///
-/// It fails only if memory runs out.
-pub fn answers_of(
-    alloc: Global,
-    passed: &Passed<'_>,
-    pair: &Checked<'_>,
-) -> Result<Vec<EventAnswer>, AllocError>
-    ensures answers { IfOk result (λ answers. AreAnswersTo (rules_in passed.now) (list_in pair.now) (record_in passed.now).events
-        (length (record_in passed.now).events) answers.items) }
-    ensures many { IfOk result (λ answers. length answers.items ≡ length (record_in passed.now).events) }
-{
-    let mut known = KnownBests::none(alloc);
-    answers_with(alloc, passed, pair, &mut known)
 }

@@ -8,10 +8,10 @@ ghost use Rattle.call_stages.specs.Stages.{IsRead};
 ghost use Rattle.engine.specs.Boards.{place_asked};
 ghost use Rattle.game_answers.specs.Boards.{mark_at, row_marks, board_marks, line_at, IsShownBoard, IsBoardAt, IsBoardOf};
 
-use crate::tops::{place_asked, shown_rack};
 use arrayvec::ArrayVec;
 use call_stages::{Decision, RunFault, read_text, record_from};
 use devices::Input;
+use engine::{place_asked, shown_rack};
 use game_board::{kinds_off, lay_plays, square_mark, tiles_off};
 use game_sheets::had_before;
 use gcg_read::{Event, MAX_BYTES, Players, Record, Seat};

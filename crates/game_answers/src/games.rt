@@ -1,5 +1,5 @@
 //! The judged game of a record, by the bytes of its input.
-ghost use Rattle.std.specs.Prelude.{IfOk, true};
+ghost use Rattle.std.specs.Prelude.{IfOk};
 ghost use Rattle.devices.specs.Devices.{HasRoom};
 ghost use Rattle.gcg_read.specs.Records.{most_bytes};
 ghost use Rattle.lex_check.specs.Pairs.{list_in};
@@ -76,9 +76,10 @@ fn judged_from(
     Ok(Ok(judged))
 }
 
-/// Reads the record of a game and judges it, as [`judge_game`] does. Only if `best` is true are there answers on the events, and are best plays looked
-/// for; the verdict is the same. Best plays that are known are not searched for, and those that are found are known from then on; what is found of the
-/// game does not depend on them.
+/// Reads the record of a game and judges it, only by the deal of the rule of completion or by a search: what [`run`](engine::run) or
+/// [`run_settled`](engine::run_settled) finds, as a value. Or the verdict that names the first fault of the record. Only if `best` is true are there answers
+/// on the events, and are best plays looked for; the verdict is the same. Best plays that are known are not searched for, and those that are found are
+/// known from then on; what is found of the game does not depend on them.
 ///
 /// The input is read to its end, or to one byte past 1 MiB and no further.
 ///
@@ -101,26 +102,4 @@ pub fn judge_game_with<G: Input>(
 {
     let text = read_text(alloc, game, MAX_BYTES)?;
     Ok(judged_from(alloc, rules, pair, &text, question, best, known)?)
-}
-
-/// Reads the record of a game and judges it, only by the deal of the rule of completion or by a search: what [`run`](engine::run) or
-/// [`run_settled`](engine::run_settled) finds, as a value. Or the verdict that names the first fault of the record.
-///
-/// The input is read to its end, or to one byte past 1 MiB and no further.
-///
-/// # Errors
-///
-/// `ReadFailed` comes only if the input failed; `NoMemory` if memory was refused.
-pub fn judge_game<G: Input>(
-    alloc: Global,
-    rules: &Rules,
-    pair: &Checked<'_>,
-    game: &mut G,
-    question: Judging,
-) -> Result<Result<JudgedGame, Decision>, RunFault>
-    requires { HasRoom (G.device game.old) }
-    ensures { IsRead most_bytes (G.device game.old) (G.device game.new) (IsJudgedGameOf true question rules.now (list_in pair.now)) result }
-{
-    let mut known = KnownBests::none(alloc);
-    judge_game_with(alloc, rules, pair, game, question, true, &mut known)
 }

@@ -44,7 +44,7 @@ fn shown_on(board: &Board, at: Square, dir: Dir, many: usize) -> Word
 }
 
 /// The word of a play, with the letters that it plays through, by the board after it; none for other events.
-pub fn word_of(board: &Board, kind: &EventKind) -> Word
+pub(crate) fn word_of(board: &Board, kind: &EventKind) -> Word
     ensures { result.items ≡ word_of board.now kind.now }
 {
     match kind {

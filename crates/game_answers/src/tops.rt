@@ -1,21 +1,18 @@
 //! The best plays before a line of a record, as a value.
-ghost use Rattle.std.specs.Prelude.{◌≡◌, ◌≤◌, IfOk, IfSome, Some, length};
-ghost use Rattle.std.specs.Option.{option_copied};
+ghost use Rattle.std.specs.Prelude.{◌≡◌, ◌≤◌, IfOk, Some, length};
 ghost use Rattle.devices.specs.Devices.{HasRoom};
 ghost use Rattle.gcg_read.specs.Records.{most_bytes};
 ghost use Rattle.lex_check.specs.Pairs.{list_in};
 ghost use Rattle.call_stages.specs.Stages.{IsRead};
 ghost use Rattle.engine.specs.Boards.{place_asked};
-ghost use Rattle.engine.specs.TopBefore.{rack_asked, shown_rack};
 ghost use Rattle.game_answers.specs.Tops.{verdict_of, AreFoundBy, AreFoundAt, AreTopPlays, AreTopPlaysOf};
 
 use crate::plays::{ScoredPlay, best_plays};
 use call_stages::{AskedGame, Decision, GameFault, RunFault, Verdict, read_text, record_from};
 use devices::Input;
-use engine::TurnPlays;
-use game_board::place_of_line;
+use engine::{TurnPlays, place_asked, rack_asked};
 use game_turns::{RuleFault, board_before};
-use gcg_read::{Event, MAX_BYTES};
+use gcg_read::MAX_BYTES;
 use lex_check::Checked;
 use ref_tiles::{Counts, Rules};
 use std::alloc::{AllocError, Global};
@@ -57,37 +54,6 @@ impl FoundPlays {
             FoundPlays::NoRack => Verdict::BadRack,
             FoundPlays::NoLine => Verdict::BadLine,
         }
-    }
-}
-
-/// The place of a line, or the end of the events.
-pub(crate) fn place_asked(events: &[Event], before: Option<u32>) -> Option<usize>
-    ensures place { result ≡ place_asked events.now before }
-    ensures within { IfSome result (λ place. place ≤ length events.now) }
-{
-    match before {
-        None => Some(events.len()),
-        Some(line) => place_of_line(events, line),
-    }
-}
-
-/// The rack of an event, if it shows one.
-pub(crate) fn shown_rack(event: Option<&Event>) -> Option<Counts>
-    ensures { result ≡ shown_rack (option_copied event.entry) }
-{
-    match event {
-        Some(event) => event.rack,
-        None => None,
-    }
-}
-
-/// The rack of the question: the given one, or else that of the event.
-fn rack_asked(given: Option<Counts>, event: Option<&Event>) -> Option<Counts>
-    ensures { result ≡ rack_asked given (option_copied event.entry) }
-{
-    match given {
-        Some(rack) => Some(rack),
-        None => shown_rack(event),
     }
 }
 
@@ -146,7 +112,7 @@ fn found_on_line(
 
 /// What is found in a record for a question about the best plays before a line.
 #[tactic(auto, using(crate::proofs::TopLaws::tells_plays))]
-pub fn find_plays(
+fn find_plays(
     alloc: Global,
     asked: &AskedGame<'_>,
     question: &TurnPlays,

@@ -11,37 +11,73 @@ use Rattle.deal_steps.specs.declared.faults.DealBound.{DealBound}
 use Rattle.deal_steps.specs.declared.faults.DealBound.TheVariants as deal
 use Rattle.deal_cuts.specs.declared.earlier.Earlier.{Earlier}
 use Rattle.game_deal.specs.declared.racks.RackFinding.TheVariants as rack
+use Rattle.game_deal.specs.declared.racks.RackTrial.TheVariants as trial
 use Rattle.game_deal.specs.Laws.{FittingIsBounded}
-use Rattle.game_deal.specs.Racks.{AreFound}
+use Rattle.game_deal.specs.Racks.{AreTried, AreFound}
+use Rattle.game_deal.specs.Verdicts.{IsGame}
 use Rattle.game_deal.proofs.Deals.{exceeds}
 use Rattle.game_deal.proofs.FoundRacks.{ends_on, left_open}
 use Rattle.call_stages.specs.declared.verdicts.GameFault.TheVariants as game
 use Rattle.game_case.specs.declared.findings.Finding.{Finding}
 use Rattle.game_case.specs.declared.findings.Finding.TheVariants as finding
 use Rattle.game_case.specs.Archiving.{past_bound, HasEvents, IsFinding}
+use Rattle.game_case.specs.Settling.{IsTriedAs, IsSettledAs}
 
 -- ---- what is found of racks
 
-pub by_deal : (passed : Passed) (words : List (List ℕ)) (complete : Bool) → HasEvents (record_in passed) → AreAllowed (rules_in passed) words (record_in passed).events
-    → AreFound passed rack.Dealt → complete ≡ is_finished (rules_in passed) (record_in passed).events → IsFinding (rules_in passed) words (record_in passed) (finding.Legal complete)
-by_deal passed words complete has allowed deal is = (has, record { allowed = allowed; racks = deal.racks; dealt = deal.fits }, is)
+dealt_game : (passed : Passed) (words : List (List ℕ)) → AreAllowed (rules_in passed) words (record_in passed).events → AreFound passed rack.Dealt
+    → IsGame (rules_in passed) words (record_in passed).events
+dealt_game passed words allowed deal = record { allowed = allowed; racks = deal.racks; dealt = deal.fits }
 
-past_of : FittingIsBounded → (passed : Passed) (words : List (List ℕ)) (bound : DealBound) → HasEvents (record_in passed) → AreAllowed (rules_in passed) words (record_in passed).events
-    → AreFound passed (rack.PastBound bound) → IsFinding (rules_in passed) words (record_in passed) (past_bound bound)
-past_of law passed words (deal.RackTooBig line) has allowed found = (has, exceeds law (rules_in passed) words (record_in passed).events (deal.RackTooBig line) allowed found)
-past_of law passed words (deal.TilesShort line kind) has allowed found = (has, exceeds law (rules_in passed) words (record_in passed).events (deal.TilesShort line kind) allowed found)
+pub found_dealt : (passed : Passed) (words : List (List ℕ)) (complete : Bool) → AreAllowed (rules_in passed) words (record_in passed).events → AreFound passed rack.Dealt
+    → complete ≡ is_finished (rules_in passed) (record_in passed).events → IsSettledAs (rules_in passed) words (record_in passed).events (finding.Legal complete)
+found_dealt passed words complete allowed deal is = (dealt_game passed words allowed deal, is)
 
-pub past : FittingIsBounded → (passed : Passed) (words : List (List ℕ)) (bound : DealBound) (f : Finding) → HasEvents (record_in passed) → AreAllowed (rules_in passed) words (record_in passed).events
-    → AreFound passed (rack.PastBound bound) → f ≡ past_bound bound → IsFinding (rules_in passed) words (record_in passed) f
-past law passed words bound f has allowed found is = subst (λ (g : Finding). IsFinding (rules_in passed) words (record_in passed) g) (sym is) (past_of law passed words bound has allowed found)
+past_found : FittingIsBounded → (passed : Passed) (words : List (List ℕ)) (bound : DealBound) → AreAllowed (rules_in passed) words (record_in passed).events
+    → AreFound passed (rack.PastBound bound) → IsSettledAs (rules_in passed) words (record_in passed).events (past_bound bound)
+past_found law passed words (deal.RackTooBig line) allowed found = exceeds law (rules_in passed) words (record_in passed).events (deal.RackTooBig line) allowed found
+past_found law passed words (deal.TilesShort line kind) allowed found = exceeds law (rules_in passed) words (record_in passed).events (deal.TilesShort line kind) allowed found
 
-pub out : (passed : Passed) (words : List (List ℕ)) (line : ℕ) (earlier : Earlier) → HasEvents (record_in passed) → AreAllowed (rules_in passed) words (record_in passed).events
-    → AreFound passed (rack.NoDeal line earlier) → IsFinding (rules_in passed) words (record_in passed) (finding.Illegal line (game.NoDeal earlier))
-out passed words line earlier has allowed found = (has, ends_on passed words line earlier allowed found)
+pub found_past : FittingIsBounded → (passed : Passed) (words : List (List ℕ)) (bound : DealBound) (f : Finding) → AreAllowed (rules_in passed) words (record_in passed).events
+    → AreFound passed (rack.PastBound bound) → f ≡ past_bound bound → IsSettledAs (rules_in passed) words (record_in passed).events f
+found_past law passed words bound f allowed found is =
+    subst (λ (g : Finding). IsSettledAs (rules_in passed) words (record_in passed).events g) (sym is) (past_found law passed words bound allowed found)
 
-pub unknown : (passed : Passed) (words : List (List ℕ)) → HasEvents (record_in passed) → AreAllowed (rules_in passed) words (record_in passed).events → AreFound passed rack.Unknown
-    → IsFinding (rules_in passed) words (record_in passed) finding.Unsettled
-unknown passed words has allowed found = (has, left_open passed words allowed found)
+pub found_out : (passed : Passed) (words : List (List ℕ)) (line : ℕ) (earlier : Earlier) → AreAllowed (rules_in passed) words (record_in passed).events
+    → AreFound passed (rack.NoDeal line earlier) → IsSettledAs (rules_in passed) words (record_in passed).events (finding.Illegal line (game.NoDeal earlier))
+found_out passed words line earlier allowed found = ends_on passed words line earlier allowed found
+
+pub found_open : (passed : Passed) (words : List (List ℕ)) → AreAllowed (rules_in passed) words (record_in passed).events → AreFound passed rack.Unknown
+    → IsSettledAs (rules_in passed) words (record_in passed).events finding.Unsettled
+found_open passed words allowed found = left_open passed words allowed found
+
+-- ---- by the deal of the rule alone
+
+pub tried_dealt : (passed : Passed) (words : List (List ℕ)) (complete : Bool) → AreAllowed (rules_in passed) words (record_in passed).events → AreTried passed trial.Dealt
+    → complete ≡ is_finished (rules_in passed) (record_in passed).events → IsTriedAs (rules_in passed) words (record_in passed).events (finding.Legal complete)
+tried_dealt passed words complete allowed dealt is = (allowed, dealt, is)
+
+past_tried : FittingIsBounded → (passed : Passed) (words : List (List ℕ)) (bound : DealBound) → AreAllowed (rules_in passed) words (record_in passed).events
+    → AreTried passed (trial.PastBound bound) → IsTriedAs (rules_in passed) words (record_in passed).events (past_bound bound)
+past_tried law passed words (deal.RackTooBig line) allowed found = exceeds law (rules_in passed) words (record_in passed).events (deal.RackTooBig line) allowed found
+past_tried law passed words (deal.TilesShort line kind) allowed found = exceeds law (rules_in passed) words (record_in passed).events (deal.TilesShort line kind) allowed found
+
+pub tried_past : FittingIsBounded → (passed : Passed) (words : List (List ℕ)) (bound : DealBound) (f : Finding) → AreAllowed (rules_in passed) words (record_in passed).events
+    → AreTried passed (trial.PastBound bound) → f ≡ past_bound bound → IsTriedAs (rules_in passed) words (record_in passed).events f
+tried_past law passed words bound f allowed found is =
+    subst (λ (g : Finding). IsTriedAs (rules_in passed) words (record_in passed).events g) (sym is) (past_tried law passed words bound allowed found)
+
+pub tried_open : (passed : Passed) (words : List (List ℕ)) → AreAllowed (rules_in passed) words (record_in passed).events → AreTried passed trial.Open
+    → IsTriedAs (rules_in passed) words (record_in passed).events finding.Unsettled
+tried_open passed words allowed found = left_open passed words allowed found
+
+-- ---- of a record with an event
+
+pub with_events : (rules : Rules) (words : List (List ℕ)) (r : Record) (f : Finding) → HasEvents r → IsSettledAs rules words r.events f → IsFinding rules words r f
+with_events rules words r finding.NoGame has is = absurd is
+with_events rules words r (finding.Legal complete) has is = (has, is.0, is.1)
+with_events rules words r (finding.Illegal line fault) has is = (has, is)
+with_events rules words r finding.Unsettled has is = (has, is)
 
 -- ---- refusals
 

@@ -1,4 +1,5 @@
 pub mod Archiving
+pub mod Settling
 pub mod WalkedEntries
 pub mod Auditing
 pub mod Explaining

@@ -84,7 +84,7 @@ fn audit_from(
 }
 
 /// Reads the record of a game, corrects its scores and totals as far as the rules allow its events, and settles the result:
-/// which numbers are wrong, and the entry of the corrected record, as [`archive_entry`](crate::archive_entry) gives it. Or the
+/// which numbers are wrong, and the entry of the corrected record, as [`open_case`](crate::open_case) gives it. Or the
 /// verdict that names the first fault of the record.
 ///
 /// The input is read to its end, or to one byte past 1 MiB and no further.

@@ -1,7 +1,5 @@
 //! The entry of one game of many, by a word list and a lexicon that were read before.
 ghost use Rattle.std.specs.Prelude.{◌≡◌, IfOk, None};
-ghost use Rattle.devices.specs.Devices.{HasRoom};
-ghost use Rattle.gcg_read.specs.Records.{most_bytes};
 ghost use Rattle.game_turns.specs.Passing.{rules_in, record_in, list_in};
 ghost use Rattle.game_turns.specs.Places.{AreAllowed};
 ghost use Rattle.game_rows.specs.Refusals.{IsToldRefusal};
@@ -10,18 +8,16 @@ ghost use Rattle.game_rows.specs.Walks.{GoesThrough, IsWalkOf};
 ghost use Rattle.lex_check.specs.Pairs as pairs;
 ghost use Rattle.game_case.specs.declared.findings.Finding.TheVariants as finding;
 ghost use Rattle.call_stages.specs.declared.verdicts.GameFault.TheVariants as game;
-ghost use Rattle.game_case.specs.Archiving.{past_bound, IsFinding, AreUnlisted, IsEntry, IsEntryOf};
-ghost use Rattle.call_stages.specs.Stages.{IsRead};
+ghost use Rattle.game_case.specs.Archiving.{IsFinding, AreUnlisted, IsEntry};
 ghost use Rattle.game_case.specs.WalkedEntries.{IsWalkedFrom};
 
 use crate::findings::Finding;
+use crate::settling::settle_passed;
 use crate::unlisted::unlisted_plays;
-use call_stages::{GameFault, RunFault, game_from, read_text};
-use devices::Input;
-use game_deal::{DealBound, RackFinding, law_of_bounds, settle_racks};
+use call_stages::{GameFault, game_from};
 use game_rows::{Refusal, Row, Walk, walk_as_written};
 use game_turns::{Passed, RuleFault};
-use gcg_read::{MAX_BYTES, ReadFault, Record};
+use gcg_read::{ReadFault, Record};
 use lex_check::Checked;
 use ref_tiles::Rules;
 use std::alloc::{AllocError, Global};
@@ -37,24 +33,8 @@ pub struct Entry {
     pub unlisted: Option<usize>,
 }
 
-/// What is found of a game whose racks exceed a bound.
-fn past_bound(bound: &DealBound) -> Finding
-    ensures { result ≡ past_bound bound.now }
-{
-    match bound {
-        DealBound::RackTooBig { line } => Finding::Illegal {
-            line: *line,
-            fault: GameFault::RackTooBig,
-        },
-        DealBound::TilesShort { line, kind } => Finding::Illegal {
-            line: *line,
-            fault: GameFault::TilesShort(*kind),
-        },
-    }
-}
-
 /// What is found of a record that passed, or that it has no event.
-#[tactic(auto, using(crate::proofs::FoundGames::by_deal, crate::proofs::FoundGames::past, crate::proofs::FoundGames::out, crate::proofs::FoundGames::unknown))]
+#[tactic(auto, using(crate::proofs::FoundGames::with_events))]
 fn find_passed(alloc: Global, passed: &Passed<'_>) -> Result<Finding, AllocError>
     requires { AreAllowed (rules_in passed.now) (list_in passed.now) (record_in passed.now).events }
     ensures { IfOk result (IsFinding (rules_in passed.now) (list_in passed.now) (record_in passed.now)) }
@@ -62,18 +42,8 @@ fn find_passed(alloc: Global, passed: &Passed<'_>) -> Result<Finding, AllocError
     if passed.record().events.is_empty() {
         return Ok(Finding::NoGame);
     }
-    law_of_bounds();
-    match settle_racks(alloc, passed)? {
-        RackFinding::Dealt => Ok(Finding::Legal {
-            complete: passed.complete(),
-        }),
-        RackFinding::PastBound(bound) => Ok(past_bound(&bound)),
-        RackFinding::NoDeal { line, earlier } => Ok(Finding::Illegal {
-            line,
-            fault: GameFault::NoDeal { earlier },
-        }),
-        RackFinding::Unknown => Ok(Finding::Unsettled),
-    }
+    let found = settle_passed(alloc, passed)?;
+    Ok(found)
 }
 
 /// What is found of a record, and how many of its plays stand with a word that is not in the list, if every event is allowed.
@@ -182,41 +152,4 @@ pub(crate) fn walked_from(
         }
         Err(fault) => Ok(Err(fault)),
     }
-}
-
-/// The entry of the record of a text, or the fault of the record.
-fn entry_from(
-    alloc: Global,
-    rules: &Rules,
-    pair: &Checked<'_>,
-    text: &[u8],
-) -> Result<Result<Entry, ReadFault>, AllocError>
-    ensures { IfOk result (IsEntryOf rules.now (pairs.list_in pair.now) text.now) }
-{
-    match walked_from(alloc, rules, pair, text)? {
-        Ok(walked) => Ok(Ok(walked.entry)),
-        Err(fault) => Ok(Err(fault)),
-    }
-}
-
-/// Reads the record of one game of many and settles it, by a word list and its lexicon that were read before: what
-/// `run_settled` of `engine` would find of it, without its report. The answer is the entry of the game, or the first
-/// fault of its record.
-///
-/// The input is read to its end, or to one byte past 1 MiB and no further.
-///
-/// # Errors
-///
-/// `ReadFailed` comes only if the input failed; `NoMemory` if memory was refused.
-pub fn archive_entry<G: Input>(
-    alloc: Global,
-    rules: &Rules,
-    pair: &Checked<'_>,
-    game: &mut G,
-) -> Result<Result<Entry, ReadFault>, RunFault>
-    requires { HasRoom (G.device game.old) }
-    ensures { IsRead most_bytes (G.device game.old) (G.device game.new) (IsEntryOf rules.now (pairs.list_in pair.now)) result }
-{
-    let text = read_text(alloc, game, MAX_BYTES)?;
-    Ok(entry_from(alloc, rules, pair, &text)?)
 }

@@ -51,7 +51,7 @@ fn case_of(text: Vec<u8>, walked: Result<Walked, ReadFault>) -> Case
 }
 
 /// The settled verdict of what is found of a record. A record without an event is a legal game that is not finished.
-fn verdict_in(finding: &Finding) -> Verdict
+pub fn verdict_in(finding: &Finding) -> Verdict
     ensures { result ≡ verdict_in finding.now }
 {
     match finding {
@@ -100,7 +100,7 @@ pub fn case_line(alloc: Global, case: &Case) -> Result<Vec<u8>, AllocError>
     }
 }
 
-/// Reads the record of a game, keeps its bytes, and settles it as [`archive_entry`](crate::archive_entry) does. The case has all
+/// Reads the record of a game, keeps its bytes, and settles it: what `run_settled` of `engine` would find of it, without its report. The case has all
 /// that is needed to explain the verdict, or one of the lines.
 ///
 /// The input is read to its end, or to one byte past 1 MiB and no further.

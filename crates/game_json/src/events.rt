@@ -1,136 +1,189 @@
-//! Events as objects.
+//! Events as trees.
+ghost use Rattle.std.specs.Prelude.{◌≡◌, IfOk, length, map};
+ghost use Rattle.std.specs.List.{range_with_len};
+ghost use Rattle.std.specs.Option.{option_copied};
+ghost use Rattle.json_trees.specs.Trees.{view};
+ghost use Rattle.json_trees.specs.Values.{array_of};
+ghost use Rattle.answer_json.specs.Kinds.{kind_tiles};
+ghost use Rattle.game_json.specs.Events.{best_in, best_value, event_at, event_object, played_or, spelled_value, tiles_in, turn_in, turn_word, unlisted_in, word_in};
 
-use crate::plays::{BestObject, placed_text};
+use crate::plays::{best_tree, placed_tree};
 use answer_json::{
-    kind_name, number_of, play_fields, rack_text, text_of, text_unless_empty, tiles_of,
+    given_tree, item_at, kind_direction_tree, kind_name, kind_number_tree, kind_place_tree,
+    kind_symbols_tree, kind_tiles_tree, number_of, rack_tree,
 };
-use event_notes::{BestPlay, SpelledWord, TurnBest};
+use event_notes::{SpelledWord, TurnBest};
 use game_answers::EventAnswer;
 use gcg_read::{Event, EventKind, Players};
-use serde::Serialize;
+use json_trees::{Tree, array, count_tree, integer_tree, name_tree, null_tree, object, text_tree};
+use ref_play::Play;
 use std::alloc::{AllocError, Global};
 
-/// An event. What is not known of its kind is null.
-#[derive(Drop, Serialize)]
-pub struct EventObject {
-    line: u32,
-    player: u32,
-    nick: String,
-    rack: Option<String>,
-    kind: &'static str,
-    place: Option<String>,
-    direction: Option<&'static str>,
-    text: Option<String>,
-    word: Option<String>,
-    tiles: Option<String>,
-    number: Option<u8>,
-    score: i32,
-    total: i32,
-    turn: Option<&'static str>,
-    best: Option<BestObject>,
-    unlisted: Option<Vec<String>>,
-}
-
-impl EventObject {
-    /// What an event line says.
-    fn written(alloc: Global, players: &Players, event: &Event) -> Result<EventObject, AllocError> {
-        Ok(EventObject {
-            line: event.line,
-            player: number_of(event.player),
-            nick: text_of(alloc, players.of(event.player).nick.as_bytes())?,
-            rack: rack_text(alloc, &event.rack)?,
-            kind: kind_name(&event.kind),
-            place: None,
-            direction: None,
-            text: None,
-            word: None,
-            tiles: None,
-            number: None,
-            score: event.score.value(),
-            total: event.total.value(),
-            turn: None,
-            best: None,
-            unlisted: None,
-        })
-    }
-
-    /// Takes what goes with the kind of the event.
-    fn take_kind(&mut self, alloc: Global, kind: &EventKind) -> Result<(), AllocError> {
-        match kind {
-            EventKind::Play { at, dir, word } => {
-                let fields = play_fields(alloc, *at, *dir, word.as_slice())?;
-                self.place = Some(fields.place);
-                self.direction = Some(fields.direction);
-                self.text = Some(fields.text);
-            }
-            EventKind::Exchange(tiles) | EventKind::LastRack(tiles) => {
-                self.tiles = Some(tiles_of(alloc, tiles)?);
-            }
-            EventKind::ExchangeUnknown(number) => self.number = Some(*number),
-            EventKind::Pass | EventKind::Withdraw | EventKind::Challenge | EventKind::Time => {}
-        }
-        Ok(())
-    }
-
-    /// Takes what is answered for the event.
-    fn take_answer(&mut self, alloc: Global, answer: &EventAnswer) -> Result<(), AllocError> {
-        self.word = text_unless_empty(alloc, answer.word.as_slice())?;
-        if let Some(play) = &answer.play {
-            self.tiles = Some(placed_text(alloc, play.tiles.as_slice())?);
-        }
-        self.take_best(alloc, &answer.best)?;
-        self.unlisted = Some(words_of(alloc, answer.unlisted.as_slice())?);
-        Ok(())
-    }
-
-    /// Takes what is said of the best play.
-    fn take_best(&mut self, alloc: Global, best: &TurnBest) -> Result<(), AllocError> {
-        match best {
-            TurnBest::NoTurn => self.turn = Some("none"),
-            TurnBest::NotShown => self.turn = Some("rack not shown"),
-            TurnBest::NoPlay => self.turn = Some("no play"),
-            TurnBest::Best(best) => {
-                self.turn = Some("best play");
-                self.best = Some(best_object(alloc, best)?);
-            }
-        }
-        Ok(())
+/// The whole word of a play; null if it is not known.
+fn word_tree(alloc: Global, answer: Option<&EventAnswer>) -> Result<Tree, AllocError>
+    ensures { IfOk result (λ tree. view tree ≡ word_in (option_copied answer.entry)) }
+{
+    match answer {
+        Some(answer) => given_tree(alloc, answer.word.as_slice()),
+        None => Ok(null_tree()),
     }
 }
 
-/// The best play of a turn.
-fn best_object(alloc: Global, best: &BestPlay) -> Result<BestObject, AllocError> {
-    let written = &best.written;
-    let fields = play_fields(alloc, written.at, written.dir, written.word.as_slice())?;
-    Ok(BestObject {
-        place: fields.place,
-        direction: fields.direction,
-        text: fields.text,
-        score: best.score,
-        more: best.more,
-    })
+/// The tiles of a play that is put down or taken back; otherwise those that the event names.
+fn played_tree(alloc: Global, kind: &EventKind, play: &Option<Play>) -> Result<Tree, AllocError>
+    ensures { IfOk result (λ tree. view tree ≡ played_or (kind_tiles kind.now) play.now) }
+{
+    match play {
+        Some(play) => placed_tree(alloc, play.tiles.as_slice()),
+        None => kind_tiles_tree(alloc, kind),
+    }
 }
 
-/// Words as text.
-fn words_of(alloc: Global, words: &[SpelledWord]) -> Result<Vec<String>, AllocError> {
-    let mut texts = Vec::new(alloc);
+/// The tiles of an event.
+fn event_tiles(
+    alloc: Global,
+    kind: &EventKind,
+    answer: Option<&EventAnswer>,
+) -> Result<Tree, AllocError>
+    ensures { IfOk result (λ tree. view tree ≡ tiles_in kind.now (option_copied answer.entry)) }
+{
+    match answer {
+        Some(answer) => played_tree(alloc, kind, &answer.play),
+        None => kind_tiles_tree(alloc, kind),
+    }
+}
+
+/// What is said of the best play of a turn.
+fn turn_name(best: &TurnBest) -> &'static str
+    ensures { result.now ≡ turn_word best.now }
+{
+    match best {
+        TurnBest::NoTurn => "none",
+        TurnBest::NotShown => "rack not shown",
+        TurnBest::NoPlay => "no play",
+        TurnBest::Best(_) => "best play",
+    }
+}
+
+/// What is said of the best play of a turn; null if nothing is answered for the event.
+fn turn_tree(answer: Option<&EventAnswer>) -> Tree
+    ensures { view result ≡ turn_in (option_copied answer.entry) }
+{
+    match answer {
+        Some(answer) => name_tree(turn_name(&answer.best)),
+        None => null_tree(),
+    }
+}
+
+/// The best play of a turn, if there is one.
+fn turn_best(alloc: Global, best: &TurnBest) -> Result<Tree, AllocError>
+    ensures { IfOk result (λ tree. view tree ≡ best_value best.now) }
+{
+    match best {
+        TurnBest::Best(best) => best_tree(alloc, best),
+        TurnBest::NoTurn | TurnBest::NotShown | TurnBest::NoPlay => Ok(null_tree()),
+    }
+}
+
+/// The best play of the turn of an event, if it is known.
+fn event_best(alloc: Global, answer: Option<&EventAnswer>) -> Result<Tree, AllocError>
+    ensures { IfOk result (λ tree. view tree ≡ best_in (option_copied answer.entry)) }
+{
+    match answer {
+        Some(answer) => turn_best(alloc, &answer.best),
+        None => Ok(null_tree()),
+    }
+}
+
+/// Words as texts.
+fn words_array(alloc: Global, words: &[SpelledWord]) -> Result<Tree, AllocError>
+    ensures { IfOk result (λ tree. view tree ≡ array_of (map spelled_value words.now)) }
+{
+    let mut trees = Vec::new(alloc);
     for word in words {
-        texts.push(text_of(alloc, word.letters.as_slice())?)?;
+        trees.push(text_tree(alloc, word.letters.as_slice())?)?;
     }
-    Ok(texts)
+    Ok(array(trees))
+}
+
+/// The words of a play that are not in the list; null if nothing is answered for the event.
+fn event_unlisted(alloc: Global, answer: Option<&EventAnswer>) -> Result<Tree, AllocError>
+    ensures { IfOk result (λ tree. view tree ≡ unlisted_in (option_copied answer.entry)) }
+{
+    match answer {
+        Some(answer) => words_array(alloc, answer.unlisted.as_slice()),
+        None => Ok(null_tree()),
+    }
 }
 
 /// An event, with what is answered for it if that is known.
-pub fn event_object(
+fn event_tree(
     alloc: Global,
     players: &Players,
     event: &Event,
     answer: Option<&EventAnswer>,
-) -> Result<EventObject, AllocError> {
-    let mut object = EventObject::written(alloc, players, event)?;
-    object.take_kind(alloc, &event.kind)?;
-    if let Some(answer) = answer {
-        object.take_answer(alloc, answer)?;
+) -> Result<Tree, AllocError>
+    ensures { IfOk result (λ tree. view tree ≡ event_object players.now event.now (option_copied answer.entry)) }
+{
+    let nick = text_tree(alloc, players.of(event.player).nick.as_bytes())?;
+    let rack = rack_tree(alloc, &event.rack)?;
+    let place = kind_place_tree(alloc, &event.kind)?;
+    let symbols = kind_symbols_tree(alloc, &event.kind)?;
+    let word = word_tree(alloc, answer)?;
+    let tiles = event_tiles(alloc, &event.kind, answer)?;
+    let best = event_best(alloc, answer)?;
+    let unlisted = event_unlisted(alloc, answer)?;
+    let fields = vec![in alloc;
+        ("line", count_tree(event.line)),
+        ("player", count_tree(number_of(event.player))),
+        ("nick", nick),
+        ("rack", rack),
+        ("kind", name_tree(kind_name(&event.kind))),
+        ("place", place),
+        ("direction", kind_direction_tree(&event.kind)),
+        ("text", symbols),
+        ("word", word),
+        ("tiles", tiles),
+        ("number", kind_number_tree(&event.kind)),
+        ("score", integer_tree(event.score.value())),
+        ("total", integer_tree(event.total.value())),
+        ("turn", turn_tree(answer)),
+        ("best", best),
+        ("unlisted", unlisted),
+    ]?;
+    Ok(object(fields))
+}
+
+/// The event at a place, with the answer at that place.
+#[tactic(auto, unfolding(crate::specs::Events::event_at))]
+fn event_at(
+    alloc: Global,
+    players: &Players,
+    events: &[Event],
+    answers: &[EventAnswer],
+    place: usize,
+) -> Result<Tree, AllocError>
+    ensures { IfOk result (λ tree. view tree ≡ event_at players.now events.now answers.now place) }
+{
+    match item_at(events, place) {
+        Some(event) => event_tree(alloc, players, event, item_at(answers, place)),
+        None => Ok(null_tree()),
     }
-    Ok(object)
+}
+
+/// The events, each with the answer at its place.
+#[tactic(auto, using(std::proofs::lemmas::Grind::common_steps, ref_play::proofs::Ranges::map_range_more))]
+pub fn events_array(
+    alloc: Global,
+    players: &Players,
+    events: &[Event],
+    answers: &[EventAnswer],
+) -> Result<Tree, AllocError>
+    ensures { IfOk result (λ tree. view tree ≡ array_of (map (event_at players.now events.now answers.now) (range_with_len 0 (length events.now)))) }
+{
+    let mut trees = Vec::new(alloc);
+    for place in 0..events.len() {
+        trees.push(event_at(alloc, players, events, answers, place)?)?;
+    }
+    Ok(array(trees))
 }

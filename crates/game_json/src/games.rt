@@ -1,93 +1,99 @@
-//! Judged games as objects.
+//! Judged games as trees.
+ghost use Rattle.std.specs.Prelude.{◌≡◌, ◌∷◌, [], IfOk};
+ghost use Rattle.json_trees.specs.Trees.{view};
+ghost use Rattle.json_trees.specs.Values.{array_of};
+ghost use Rattle.game_json.specs.Games.{answers_in, judged_object, left_first, left_second, player_object};
 
-use crate::events::{EventObject, event_object};
+use crate::events::events_array;
 use answer_json::{
-    FaultObject, UnreadObject, push_object, text_unless_empty, unread_objects, verdict_fields,
+    ending_tree, fault_line_tree, fault_tree, given_tree, unread_array, verdict_name,
 };
-use game_answers::{GameAnswers, JudgedGame};
+use game_answers::{EventAnswer, GameAnswers, JudgedGame};
 use gcg_read::Player;
-use serde::Serialize;
+use json_trees::{Tree, array, large_count_or_null, name_tree, object};
 use std::alloc::{AllocError, Global};
 use unread_lines::UnreadLine;
 
-/// A player.
-#[derive(Drop, Serialize)]
-struct PlayerObject {
-    nick: Option<String>,
-    name: Option<String>,
-    left: Option<u64>,
-}
-
-/// A judged game.
-#[derive(Drop, Serialize)]
-struct JudgedObject {
-    verdict: &'static str,
-    line: Option<u32>,
-    fault: Option<FaultObject>,
-    ending: Option<&'static str>,
-    players: Vec<PlayerObject>,
-    events: Vec<EventObject>,
-    unread_lines: Vec<UnreadObject>,
-}
-
 /// A player, with the points that were left.
-fn player_object(
-    alloc: Global,
-    player: &Player,
-    left: Option<u64>,
-) -> Result<PlayerObject, AllocError> {
-    Ok(PlayerObject {
-        nick: text_unless_empty(alloc, player.nick.as_bytes())?,
-        name: text_unless_empty(alloc, player.full.as_bytes())?,
-        left,
-    })
+fn player_tree(alloc: Global, player: &Player, left: Option<u64>) -> Result<Tree, AllocError>
+    ensures { IfOk result (λ tree. view tree ≡ player_object player.now left) }
+{
+    let nick = given_tree(alloc, player.nick.as_bytes())?;
+    let full = given_tree(alloc, player.full.as_bytes())?;
+    let fields = vec![in alloc;
+        ("nick", nick),
+        ("name", full),
+        ("left", large_count_or_null(left)),
+    ]?;
+    Ok(object(fields))
+}
+
+/// The points that the first player left.
+fn left_first(answers: &Option<GameAnswers>) -> Option<u64>
+    ensures { result ≡ left_first answers.now }
+{
+    match answers {
+        Some(answers) => answers.left_first,
+        None => None,
+    }
+}
+
+/// The points that the second player left.
+fn left_second(answers: &Option<GameAnswers>) -> Option<u64>
+    ensures { result ≡ left_second answers.now }
+{
+    match answers {
+        Some(answers) => answers.left_second,
+        None => None,
+    }
+}
+
+/// What is answered for the events.
+fn answers_in(answers: &Option<GameAnswers>) -> &[EventAnswer]
+    ensures { result.now ≡ answers_in answers.now }
+{
+    match answers {
+        Some(answers) => answers.events.as_slice(),
+        None => &[],
+    }
 }
 
 /// The two players.
-fn player_objects(alloc: Global, game: &JudgedGame) -> Result<Vec<PlayerObject>, AllocError> {
-    let (first, second) = match &game.answers {
-        Some(answers) => (answers.left_first, answers.left_second),
-        None => (None, None),
-    };
-    let mut players = Vec::new(alloc);
-    players.push(player_object(alloc, &game.players.first, first)?)?;
-    players.push(player_object(alloc, &game.players.second, second)?)?;
-    Ok(players)
+fn players_array(alloc: Global, game: &JudgedGame) -> Result<Tree, AllocError>
+    ensures { IfOk result (λ tree. view tree ≡ array_of (player_object game.now.players.first (left_first game.now.answers)
+        ∷ player_object game.now.players.second (left_second game.now.answers) ∷ [])) }
+{
+    let first = player_tree(alloc, &game.players.first, left_first(&game.answers))?;
+    let second = player_tree(alloc, &game.players.second, left_second(&game.answers))?;
+    let trees = vec![in alloc; first, second]?;
+    Ok(array(trees))
 }
 
-/// The events, each with what is answered for it.
-fn event_objects(
+/// A judged game: the verdict, the players, each event as it is written with what is answered for it, and the lines that are not read.
+pub fn judged_tree(
     alloc: Global,
-    game: &JudgedGame,
-    answers: Option<&GameAnswers>,
-) -> Result<Vec<EventObject>, AllocError> {
-    let mut events = Vec::new(alloc);
-    for (place, event) in game.events.as_slice().iter().enumerate() {
-        let answer = match answers {
-            Some(answers) => answers.events.as_slice().get(place),
-            None => None,
-        };
-        events.push(event_object(alloc, &game.players, event, answer)?)?;
-    }
-    Ok(events)
-}
-
-/// Appends a judged game: the verdict, the players, each event as it is written with what is answered for it, and the lines that are not read.
-pub fn push_judged_game(
-    alloc: Global,
-    text: &mut Vec<u8>,
     game: &JudgedGame,
     unread: &[UnreadLine],
-) -> Result<(), AllocError> {
-    let fields = verdict_fields(alloc, &game.verdict)?;
-    let object = JudgedObject {
-        verdict: fields.verdict,
-        line: fields.line,
-        fault: fields.fault,
-        ending: fields.ending,
-        players: player_objects(alloc, game)?,
-        events: event_objects(alloc, game, game.answers.as_ref())?,
-        unread_lines: unread_objects(alloc, unread)?,
-    };
-    push_object(alloc, text, &object)
+) -> Result<Tree, AllocError>
+    ensures { IfOk result (λ tree. view tree ≡ judged_object game.now unread.now) }
+{
+    let fault = fault_tree(alloc, &game.verdict)?;
+    let players = players_array(alloc, game)?;
+    let events = events_array(
+        alloc,
+        &game.players,
+        game.events.as_slice(),
+        answers_in(&game.answers),
+    )?;
+    let unread = unread_array(alloc, unread)?;
+    let fields = vec![in alloc;
+        ("verdict", name_tree(verdict_name(&game.verdict))),
+        ("line", fault_line_tree(&game.verdict)),
+        ("fault", fault),
+        ("ending", ending_tree(&game.verdict)),
+        ("players", players),
+        ("events", events),
+        ("unread_lines", unread),
+    ]?;
+    Ok(object(fields))
 }

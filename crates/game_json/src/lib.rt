@@ -1,4 +1,5 @@
-//! A judged game and the best plays as JSON, made only from their values.
+//! A judged game and the best plays as trees, made only from their values: the contract of each call says that its tree is exactly the object that `specs/`
+//! defines for the value.
 #![tactic(auto)]
 
 mod events;
@@ -6,5 +7,5 @@ mod games;
 mod plays;
 mod tops;
 
-pub use games::push_judged_game;
-pub use tops::push_found_plays;
+pub use games::judged_tree;
+pub use tops::found_tree;

@@ -20,7 +20,7 @@ use ref_tiles::Rules;
 /// What is said of the best play of an event that gave `gave` points, if that is known without a search; `machine` is before the event. It is
 /// known for an event that is not a turn, and for a turn that does not show its rack.
 #[tactic(auto, using(crate::proofs::TurnLaws::known_turn, event_notes::proofs::BestLaws::hidden_best, event_notes::proofs::BestLaws::idle_best))]
-pub fn known_best_of_turn(
+pub(crate) fn known_best_of_turn(
     known: &KnownBests,
     machine: &Machine,
     event: &Event,
@@ -56,7 +56,7 @@ fn keep_best(known: &mut KnownBests, machine: &Machine, event: &Event, best: Tur
 /// What is said of the best play of an event that gave `gave` points, by a search; `machine` is before the event. What is found is known from then
 /// on. If `follow` has the board of the machine, its cross-sets need not be computed anew.
 #[tactic(auto, using(crate::proofs::TurnLaws::same_turn))]
-pub fn find_best_of_turn(
+pub(crate) fn find_best_of_turn(
     rules: &Rules,
     pair: &Checked<'_>,
     machine: &Machine,

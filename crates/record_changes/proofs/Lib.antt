@@ -1,3 +1,5 @@
 pub mod Fronts
+pub mod Splicing
+pub mod Differing
 pub mod Examples
 pub mod LastLines

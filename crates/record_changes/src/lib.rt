@@ -15,7 +15,7 @@ mod weights;
 
 pub use applying::{apply, right_events, wrong_events};
 pub use counting::{one_less, one_more};
-pub use laws::law_of_changes;
+pub use laws::{law_of_changes, law_of_differences};
 pub use numbers::{numbers_with, numbers_with_both};
 pub use slip_copies::copy_slip;
 pub use slips::{

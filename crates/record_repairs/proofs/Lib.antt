@@ -34,3 +34,4 @@ pub mod Parts
 pub mod Neighbours
 pub mod Rejoining
 pub mod GoingWrong
+pub mod Commonest

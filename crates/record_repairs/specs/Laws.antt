@@ -1,5 +1,5 @@
--- Laws: where no change helps.
-use Rattle.std.specs.Prelude.{ℕ, ◌+◌, ◌<◌, List, take}
+-- Laws: where no change helps, and which records are always tried.
+use Rattle.std.specs.Prelude.{◌≡◌, ◌⊎◌, ℕ, ◌+◌, ◌<◌, List, take, Contains, None}
 use Rattle.ref_tiles.specs.declared.rulebook.Rules.{Rules}
 use Rattle.gcg_read.specs.declared.events.Event.{Event}
 use Rattle.game_turns.specs.declared.faults.RuleFault.{RuleFault}
@@ -9,7 +9,12 @@ use Rattle.game_deal.specs.Recorded.{steps_of}
 use Rattle.game_deal.specs.Verdicts.{IsGame}
 use Rattle.record_changes.specs.declared.slips.Change.{Change}
 use Rattle.record_changes.specs.Applied.{applied}
-use Rattle.record_repairs.specs.Trying.{HaveNone}
+use Rattle.change_lists.specs.Commonest.{DifferSlightly}
+use Rattle.record_repairs.specs.Costs.{rank_at, cost_of}
+use Rattle.record_repairs.specs.Repairs.{IsListed, IsToldAt, AreAhead, AreFirstRepairs}
+use Rattle.record_repairs.specs.Trying.{HaveNone, IsWritable}
+use Rattle.record_repairs.specs.declared.listed.Listed.{Listed}
+use Rattle.record_repairs.specs.declared.repair.Repair.{Repair}
 
 -- After the event at which the correction of a record stops no change helps: with it the record has no correction either.
 abbrev pub NoneBehindStop : Type 0
@@ -23,3 +28,28 @@ abbrev pub NoneBehindRacks : Type 0
 NoneBehindRacks =
     (rules : Rules) (list : List (List ℕ)) (written right : List Event) (place : ℕ) → IsCorrection rules list written right → HasNoDeal rules (take (place + 1) (steps_of rules right))
     → (change : Change) → place + 1 < change.place → (other : List Event) → IsCorrection rules list (applied change written) other → IsGame rules list other → ⊥
+
+-- a record is the sheet with one of the single changes that are tried
+pub record IsTried (rules : Rules) (written : List Event) (plays : List Change) (other : List Event) : Type 0 where
+  pub listed : Listed
+  pub single : IsListed rules written plays listed
+  pub makes : applied listed.change written ≡ other
+
+-- Each record that differs from the sheet in one letter of one play, in one square's shift of one play, in one line that is left out or in two neighbouring
+-- lines that are exchanged is tried.
+abbrev pub CommonestAreTried : Type 0
+CommonestAreTried = (rules : Rules) (written : List Event) (plays : List Change) (place : ℕ) (other : List Event) → DifferSlightly place written other → IsTried rules written plays other
+
+-- a record that is tried is given, it is left open, or `most` others are ahead
+pub record IsAnswered (rules : Rules) (list : List (List ℕ)) (written : List Event) (plays : List Change) (most : ℕ) (told : List Repair) (left : List Listed) (other right : List Event) : Type 0 where
+  pub tried : IsTried rules written plays other
+  pub given : Contains left tried.listed ⊎ IsToldAt told right (rank_at (cost_of rules list tried.listed.change written right) tried.listed)
+      ⊎ AreAhead most told (rank_at (cost_of rules list tried.listed.change written right) tried.listed)
+
+-- So if such a record is a game once its numbers are corrected, and the sheet is not, it is among the first repairs, unless its deal is left open or there
+-- are enough others that cost less.
+abbrev pub CommonestAreAnswered : Type 0
+CommonestAreAnswered =
+    (rules : Rules) (list : List (List ℕ)) (written : List Event) (plays : List Change) (most : ℕ) (told : List Repair) (left : List Listed)
+    → AreFirstRepairs rules list written plays None 0 most told left → (place : ℕ) (other right : List Event) → DifferSlightly place written other
+    → IsWritable rules list other right → IsGame rules list right → IsAnswered rules list written plays most told left other right

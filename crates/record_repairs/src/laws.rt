@@ -1,5 +1,5 @@
 //! Laws about repairs. Each function does nothing: its contract is the law.
-ghost use Rattle.record_repairs.specs.Laws.{NoneBehindStop, NoneBehindRacks};
+ghost use Rattle.record_repairs.specs.Laws.{NoneBehindStop, NoneBehindRacks, CommonestAreTried, CommonestAreAnswered};
 
 use deal_cuts::law_of_fronts;
 
@@ -16,3 +16,11 @@ pub fn law_of_rack_stops()
 {
     law_of_fronts();
 }
+
+/// Each record that differs from the sheet in one letter of one play, in one square's shift of one play, in one line that is left out or in
+/// two neighbouring lines that are exchanged is tried. If it is a game once its numbers are corrected, and the sheet is not, it is among the
+/// first repairs, unless its deal is left open or enough others cost less.
+pub fn law_of_commonest()
+    ensures tried { CommonestAreTried }
+    ensures answered { CommonestAreAnswered }
+{}

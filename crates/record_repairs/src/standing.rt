@@ -10,9 +10,9 @@ use game_rows::Walk;
 use game_turns::{Machine, withdraws};
 use gcg_read::Event;
 
-/// The game before the event at a place, counted from 0, and after the last row; none beyond that.
+/// The game before the event at a place of a record that was walked over, counted from 0, and after the last row; none beyond that.
 #[tactic(auto, using(crate::proofs::Walked::first_game, crate::proofs::Walked::next_game))]
-pub(crate) fn game_before(walk: &Walk, place: usize) -> Option<&Machine>
+pub fn game_before(walk: &Walk, place: usize) -> Option<&Machine>
     ensures there { IsSome result ↔ (place ≤ length walk.now.rows.items) }
     ensures game { (rules : Rules) (list : List (List ℕ)) (events : List Event) → IsWalkOf rules list events walk.now
         → IfSome result (λ machine. StandsBefore rules list events place machine.now) }

@@ -1,5 +1,5 @@
 -- What is wrong with a record of which only the numbers are wrong.
-use Rattle.std.proofs.Common.{◌≡◌, ℕ, List, true, false, Option, Some, None, map, ap, ◌∙◌, subst}
+use Rattle.std.proofs.Common.{◌≡◌, ℕ, List, true, false, Option, Some, None, map, refl, ap, ◌∙◌, subst}
 use Rattle.std.specs.Option.{is_some}
 use Rattle.std.specs.List.{filter}
 use Rattle.ref_tiles.specs.declared.rulebook.Rules.{Rules}
@@ -15,7 +15,8 @@ use Rattle.game_rows.specs.declared.refusals.Stop.{Stop}
 use Rattle.game_rows.specs.declared.walking.Walk.{Walk}
 use Rattle.game_rows.specs.Numbers.{numbers_in}
 use Rattle.game_rows.specs.Refusals.{EndsAt}
-use Rattle.game_rows.specs.Walks.{IsWalk}
+use Rattle.game_rows.specs.Walks.{IsWalk, GoesThrough}
+use Rattle.game_rows.proofs.WalkLaws.{through_right}
 use Rattle.game_deal.specs.Verdicts.{IsGame}
 use Rattle.record_repairs.specs.Remaining.{is_on_line}
 use Rattle.record_repairs.specs.Trying.{IsWritable}
@@ -44,6 +45,14 @@ whole_by rules list written right end (Some stop) ends goes = cc
 pub whole : (rules : Rules) (list : List (List ℕ)) (written right : List Event) (walk : Walk) → IsWalk rules list written right walk → is_some walk.stopped ≡ false
     → IsCorrection rules list written right
 whole rules list written right walk is goes = whole_by rules list written right is.end walk.stopped is.ends goes
+
+none_of : (stopped : Option Stop) → is_some stopped ≡ false → stopped ≡ None
+none_of None goes = refl
+none_of (Some stop) goes = cc
+
+-- the walk went through the right events
+pub goes_through : (rules : Rules) (list : List (List ℕ)) (written right : List Event) (walk : Walk) → IsWalk rules list written right walk → is_some walk.stopped ≡ false → GoesThrough rules list right walk
+goes_through rules list written right walk is goes = through_right rules list written right walk is (none_of walk.stopped goes)
 
 -- if the right events are not a game, no correction is one
 pub none_game : (rules : Rules) (list : List (List ℕ)) (written right : List Event) → IsCorrection rules list written right → (IsGame rules list right → ⊥)

@@ -22,31 +22,30 @@ use Rattle.repair_answers.specs.declared.numbers_alone.NumbersAlone.{NumbersAlon
 use Rattle.repair_answers.specs.declared.sheet_repair.SheetRepair.{SheetRepair}
 use Rattle.repair_answers.specs.declared.likely.Likely.{Likely}
 
-pub likely_of : (rules : Rules) (list words : List (List ℕ)) (text : List ℕ) (written now walked then last : List Event) (numbers : Option NumbersAlone) (below : Option ℕ) (walk : Walk) (plays : List Change)
-    (found : Found) (singles : List Repair) (two : Pairs) (pairs : List Pair) (sheets : List SheetRepair) (likely : Option Likely) → words ≡ list → now ≡ written → walked ≡ now → then ≡ walked
-    → last ≡ then → IsUnchanged rules words written numbers → below ≡ below_of numbers → IsWalkOf rules words now walk → ArePlayChanges walked walk plays
-    → AreTold rules list walked numbers plays below found.from 4 found.told.items found.left.items → singles ≡ found.told.items → ArePairs rules words then singles 1 two → pairs ≡ two.told.items
+pub likely_of : (rules : Rules) (list words : List (List ℕ)) (text : List ℕ) (written now then last : List Event) (numbers : Option NumbersAlone) (below : Option ℕ) (walk : Walk) (plays : List Change)
+    (found : Found) (singles : List Repair) (two : Pairs) (pairs : List Pair) (sheets : List SheetRepair) (likely : Option Likely) → words ≡ list → now ≡ written → then ≡ now → last ≡ then
+    → IsUnchanged rules words written numbers → below ≡ below_of numbers → IsWalkOf rules list written walk → ArePlayChanges now walk plays
+    → AreTold rules list now numbers plays below found.from 4 found.told.items found.left.items → singles ≡ found.told.items → ArePairs rules words then singles 1 two → pairs ≡ two.told.items
     → AreSheetRepairs rules words text last (sheet_room numbers) (slips_tried text last walk) sheets → IsLikelyOf numbers found.told.items (all_known found.left.items found.from) pairs sheets likely
     → IsLikely rules list text written likely
-likely_of rules list words text written now walked then last numbers below walk plays found singles two pairs sheets likely is_list same still same_too kept alone by of_walk are_plays repairs are_singles are_pairs
-    are_told are_sheets chosen =
-    let here : walked ≡ written = still ∙ same in
-    let there : last ≡ written = kept ∙ same_too ∙ here in
+likely_of rules list words text written now then last numbers below walk plays found singles two pairs sheets likely is_list same same_too kept alone by walked are_plays repairs are_singles are_pairs are_told
+    are_sheets chosen =
+    let there : last ≡ written = kept ∙ same_too ∙ same in
     record {
       numbers = numbers;
       alone = subst (λ (ws : List (List ℕ)). IsUnchanged rules ws written numbers) is_list alone;
       walk = walk;
-      walked = subst (λ (ws : List (List ℕ)). IsWalkOf rules ws written walk) is_list (subst (λ (es : List Event). IsWalkOf rules words es walk) same of_walk);
+      walked = walked;
       plays = plays;
-      are_plays = subst (λ (es : List Event). ArePlayChanges es walk plays) here are_plays;
+      are_plays = subst (λ (es : List Event). ArePlayChanges es walk plays) same are_plays;
       told = found.told.items;
       left = found.left.items;
       from = found.from;
       repairs = subst (λ (b : Option ℕ). AreTold rules list written numbers plays b found.from 4 found.told.items found.left.items) by
-          (subst (λ (es : List Event). AreTold rules list es numbers plays below found.from 4 found.told.items found.left.items) here repairs);
+          (subst (λ (es : List Event). AreTold rules list es numbers plays below found.from 4 found.told.items found.left.items) same repairs);
       two = two;
       pairs = subst (λ (ws : List (List ℕ)). ArePairs rules ws written found.told.items 1 two) is_list
-          (subst (λ (es : List Event). ArePairs rules words es found.told.items 1 two) (same_too ∙ here)
+          (subst (λ (es : List Event). ArePairs rules words es found.told.items 1 two) (same_too ∙ same)
           (subst (λ (ss : List Repair). ArePairs rules words then ss 1 two) are_singles are_pairs));
       sheets = sheets;
       are_sheets = subst (λ (ws : List (List ℕ)). AreSheetRepairs rules ws text written (sheet_room numbers) (slips_tried text written walk) sheets) is_list

@@ -11,7 +11,9 @@ use Rattle.record_repairs.specs.Repairs.{AreFirstRepairs, AreAhead, IsToldAt}
 use Rattle.record_repairs.specs.declared.listed.Listed.{Listed}
 use Rattle.record_repairs.specs.declared.repair.Repair.{Repair}
 use Rattle.repair_pairs.specs.Pairs.{ArePairs}
+use Rattle.repair_pairs.specs.declared.found.Pair.{Pair}
 use Rattle.repair_pairs.specs.declared.found.Pairs.{Pairs}
+use Rattle.repair_answers.specs.Alike.{is_like, are_like_pairs}
 use Rattle.repair_answers.specs.Answers.{below_of, RepairsIn}
 use Rattle.repair_answers.specs.Lines.{AreLines, before_numbers}
 use Rattle.repair_answers.specs.Sheets.{sheet_room, slips_tried, AreSheetRepairs}
@@ -66,14 +68,14 @@ pairs_wanted rules list written singles most wanted pairs is are =
     record { each = are.each; few = few_wanted (length pairs.told.items) most wanted is are.few; ordered = are.ordered; once = are.once }
 
 -- what is found of an illegal record
-pub found_of : (rules : Rules) (list words : List (List ℕ)) (text : List ℕ) (written between between_too seen : List Event) (walk : Walk) (most wanted : ℕ) (below : Option ℕ) (shown singles : List Repair) (f : Faulty)
+pub found_of : (rules : Rules) (list words : List (List ℕ)) (text : List ℕ) (written between between_too seen : List Event) (walk : Walk) (most wanted : ℕ) (below : Option ℕ) (shown singles : List Repair) (shown_pairs : List Pair) (f : Faulty)
     → words ≡ list → between ≡ written → IsUnchanged rules words written f.alone → below ≡ below_of f.alone → wanted ≡ min (most * 27) (2 ^ 64 - 1) → ArePlayChanges between walk f.plays.items
-    → AreTold rules list between f.alone f.plays.items below f.found.from wanted f.found.told.items f.found.left.items → shown ≡ f.found.told.items → AreLines shown most f.lines.items
+    → AreTold rules list between f.alone f.plays.items below f.found.from wanted f.found.told.items f.found.left.items → shown ≡ f.found.told.items → AreLines is_like shown most f.lines.items
     → f.before_numbers ≡ before_numbers f.alone shown f.lines.items → between_too ≡ written → singles ≡ f.found.told.items → ArePairs rules words between_too singles wanted f.pairs
-    → seen ≡ written → AreSheetRepairs rules words text seen (sheet_room f.alone) (slips_tried text seen walk) f.sheets.items
+    → shown_pairs ≡ f.pairs.told.items → AreLines are_like_pairs shown_pairs most f.pair_lines.items → seen ≡ written → AreSheetRepairs rules words text seen (sheet_room f.alone) (slips_tried text seen walk) f.sheets.items
     → (many_walked rules written walk * length written ≤ 4000000 → f.found.from ≡ 0) → f.untried ≡ many_untried rules seen walk f.found.from
     → f.changes ≡ many_changes rules written walk f.plays.items → f.tried ≡ f.changes - f.untried → RepairsIn rules list text written walk most f
-found_of rules list words text written between between_too seen walk most wanted below shown singles f by same alone limit is plays first told lines numbers still of pairs kept sheets all untried changes tried =
+found_of rules list words text written between between_too seen walk most wanted below shown singles shown_pairs f by same alone limit is plays first told lines numbers still of pairs two pair_lines kept sheets all untried changes tried =
     let here : AreTold rules list written f.alone f.plays.items (below_of f.alone) f.found.from wanted f.found.told.items f.found.left.items =
     subst (λ (es : List Event). AreTold rules list es f.alone f.plays.items (below_of f.alone) f.found.from wanted f.found.told.items f.found.left.items) same
     (subst (λ (o : Option ℕ). AreTold rules list between f.alone f.plays.items o f.found.from wanted f.found.told.items f.found.left.items) limit first) in
@@ -85,9 +87,10 @@ found_of rules list words text written between between_too seen walk most wanted
       alone = subst (λ (ws : List (List ℕ)). IsUnchanged rules ws written f.alone) by alone;
       plays = subst (λ (es : List Event). ArePlayChanges es walk f.plays.items) same plays;
       repairs = told_wanted rules list written f.alone f.plays.items (below_of f.alone) f.found.from most wanted f.found.told.items f.found.left.items is here;
-      lines = subst (λ (rs : List Repair). AreLines rs most f.lines.items) told lines;
+      lines = subst (λ (rs : List Repair). AreLines is_like rs most f.lines.items) told lines;
       before = numbers ∙ ap (λ (rs : List Repair). before_numbers f.alone rs f.lines.items) told;
       pairs = pairs_wanted rules list written f.found.told.items most wanted f.pairs is both;
+      pair_lines = subst (λ (ps : List Pair). AreLines are_like_pairs ps most f.pair_lines.items) two pair_lines;
       sheets = subst (λ (ws : List (List ℕ)). AreSheetRepairs rules ws text written (sheet_room f.alone) (slips_tried text written walk) f.sheets.items) by
           (subst (λ (es : List Event). AreSheetRepairs rules words text es (sheet_room f.alone) (slips_tried text es walk) f.sheets.items) kept sheets);
       all = all;

@@ -19,6 +19,7 @@ use Rattle.record_changes.specs.declared.slips.MissingLine.{MissingLine}
 use Rattle.record_changes.specs.declared.slips.MissingLine.TheVariants as missing
 use Rattle.record_repairs.specs.Costs.{costs}
 use Rattle.record_repairs.specs.declared.repair.Repair.{Repair}
+use Rattle.repair_pairs.specs.declared.found.Pair.{Pair}
 
 -- one kind of tile
 abbrev pub same_tile : Kind → Kind → Bool
@@ -76,3 +77,7 @@ cost_in r = costs (length r.remains.wrong.items) (length r.remains.unlisted.item
 -- of one kind and one cost at one place
 abbrev pub is_like : Repair → Repair → Bool
 is_like one other = one.listed.change.place == other.listed.change.place && (cost_in one == cost_in other && like_slip one.listed.change.slip other.listed.change.slip)
+
+-- pairs with the same first change, whose second ones are alike
+abbrev pub are_like_pairs : Pair → Pair → Bool
+are_like_pairs one other = one.head == other.head && is_like one.then other.then

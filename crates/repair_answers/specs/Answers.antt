@@ -12,6 +12,7 @@ use Rattle.game_case.specs.declared.findings.Finding.TheVariants as finding
 use Rattle.game_case.specs.Explaining.{case_verdict}
 use Rattle.play_changes.specs.PlayChanges.{ArePlayChanges}
 use Rattle.repair_pairs.specs.Pairs.{ArePairs}
+use Rattle.repair_answers.specs.Alike.{is_like, are_like_pairs}
 use Rattle.repair_answers.specs.BadRecords.{RepairsOfLine}
 use Rattle.repair_answers.specs.Chains.{IsChainOf}
 use Rattle.repair_answers.specs.Lines.{AreLines, before_numbers}
@@ -29,15 +30,16 @@ below_of alone = option_map (λ (a : NumbersAlone). length a.remains.wrong.items
 
 -- What repairs an illegal record: what is wrong if only its numbers are, changes of plays that a search found, which are tried too, its first repairs,
 -- as many as `most` lines can have, the lines, how many of them cost less than correcting only the numbers, pairs of changes that cost less than
--- each of these repairs, the slips of the whole sheet that repair it, and how many changes were tried and how many were not. All are tried, if the changes,
+-- each of these repairs, the lines of these pairs, the slips of the whole sheet that repair it, and how many changes were tried and how many were not. All are tried, if the changes,
 -- each counted once for each event, are no more than 4,000,000.
 pub record RepairsIn (rules : Rules) (list : List (List ℕ)) (text : List ℕ) (written : List Event) (walk : Walk) (most : ℕ) (f : Faulty) : Type 0 where
   pub alone : IsUnchanged rules list written f.alone
   pub plays : ArePlayChanges written walk f.plays.items
   pub repairs : AreTold rules list written f.alone f.plays.items (below_of f.alone) f.found.from (27 * most) f.found.told.items f.found.left.items
-  pub lines : AreLines f.found.told.items most f.lines.items
+  pub lines : AreLines is_like f.found.told.items most f.lines.items
   pub before : f.before_numbers ≡ before_numbers f.alone f.found.told.items f.lines.items
   pub pairs : ArePairs rules list written f.found.told.items (27 * most) f.pairs
+  pub pair_lines : AreLines are_like_pairs f.pairs.told.items most f.pair_lines.items
   pub sheets : AreSheetRepairs rules list text written (sheet_room f.alone) (slips_tried text written walk) f.sheets.items
   pub all : many_walked rules written walk * length written ≤ 4000000 → f.found.from ≡ 0
   pub untried : f.untried ≡ many_untried rules written walk f.found.from

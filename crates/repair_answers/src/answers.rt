@@ -1,7 +1,7 @@
 //! The answer of `repair`.
 ghost use Rattle.std.specs.Prelude.{◌≡◌, Some, IfOk, OnOk};
 ghost use Rattle.game_rows.specs.Walks.{IsWalkOf};
-ghost use Rattle.game_case.specs.Explaining.{IsWalkFor, HasItsWalk};
+ghost use Rattle.game_case.specs.Explaining.{HasItsWalk};
 ghost use Rattle.lex_check.specs.Pairs.{list_in};
 ghost use Rattle.repair_answers.specs.BadRecords.{RepairsOfLine};
 ghost use Rattle.repair_answers.specs.Answers.{below_of, is_illegal, RepairsIn, RepairsBy, RepairsOf, IsRepairAnswer};
@@ -11,7 +11,6 @@ use crate::chains::chain_of;
 use crate::evidence::{Told, before_numbers, lines_of};
 use crate::lists::{search_limit, tries_from};
 use crate::numbers_alone::NumbersAlone;
-use crate::pair_lines::pair_lines;
 use crate::sheet_repair::SheetRepair;
 use crate::sheets::sheet_repairs;
 use crate::singles::first_repairs;
@@ -19,7 +18,7 @@ use crate::unchanged::unchanged;
 use call_stages::Verdict;
 use game_case::{Case, Entry, Finding, case_verdict};
 use game_rows::Walk;
-use gcg_read::{ReadFault, Record};
+use gcg_read::Record;
 use lex_check::Checked;
 use record_changes::Change;
 use record_repairs::Found;
@@ -126,7 +125,7 @@ fn faulty_of(
         wanted,
         PAIR_STEPS,
     )?;
-    let pair_lines = pair_lines(alloc, pairs.told.as_slice(), most)?;
+    let pair_lines = lines_of(alloc, pairs.told.as_slice(), most)?;
     let events = game.events.as_slice();
     let sheets = sheet_repairs(alloc, rules, list, text, events, walk, &alone)?;
     let from = singles.found.from;
@@ -179,28 +178,8 @@ fn faulty_entry(
     Ok(Some(faulty))
 }
 
-/// What repairs a record that was read, if it is illegal.
-fn faulty_read(
-    alloc: Global,
-    rules: &Rules,
-    pair: &Checked<'_>,
-    text: &[u8],
-    read: &mut Result<Entry, ReadFault>,
-    walk: &Walk,
-    most: usize,
-) -> Result<Option<Faulty>, AllocError>
-    requires { IsWalkFor rules.now (list_in pair.now) read.old (Some walk.now) }
-    ensures repairs { IfOk result (RepairsOf read.old rules.now (list_in pair.now) text.now (Some walk.now) most) }
-    ensures same { OnOk result (read.new ≡ read.old) }
-{
-    match read {
-        Ok(entry) => faulty_entry(alloc, rules, pair, text, entry, walk, most),
-        Err(_) => Ok(None),
-    }
-}
-
 /// What repairs the record of a case, if it is illegal.
-#[tactic(auto, using(crate::proofs::Answered::none_walked, crate::proofs::Answered::walked))]
+#[tactic(auto, using(crate::proofs::Answered::none_walked, crate::proofs::Answered::walked_entry))]
 fn faulty_in(
     alloc: Global,
     rules: &Rules,
@@ -212,12 +191,15 @@ fn faulty_in(
     ensures repairs { IfOk result (RepairsOf case.old.read rules.now (list_in pair.now) case.old.text.items case.old.walk most) }
     ensures same { OnOk result (case.new ≡ case.old) }
 {
-    match &case.walk {
-        Some(walk) => {
+    let Some(walk) = &case.walk else {
+        return Ok(None);
+    };
+    match &mut case.read {
+        Ok(entry) => {
             let text = case.text.as_slice();
-            faulty_read(alloc, rules, pair, text, &mut case.read, walk, most)
+            faulty_entry(alloc, rules, pair, text, entry, walk, most)
         }
-        None => Ok(None),
+        Err(_) => Ok(None),
     }
 }
 

@@ -1,14 +1,16 @@
-//! Repairs that share a line.
-ghost use Rattle.std.specs.Prelude.{◌≡◌, ◌<◌, ◌++◌, length, IfOk, OnOk};
+//! Repairs that share a line, and pairs of changes that do.
+ghost use Rattle.std.specs.Prelude.{◌≡◌, ◌<◌, ◌++◌, Bool, length, IfOk, OnOk};
 ghost use Rattle.repair_answers.specs.Lines.{like_at, is_first, those_like, others_of, AddsLine, AreLines, is_before, before_numbers};
 
 use crate::alike::is_like;
 use crate::choices::cost_of;
 use crate::numbers_alone::NumbersAlone;
 use record_repairs::Repair;
+use repair_pairs::Pair;
 use std::alloc::{AllocError, Global};
 
-/// Repairs of one kind and one cost at one place, which differ in a letter or in how many tiles are exchanged: their numbers among all that were found.
+/// Repairs of one kind and one cost at one place, which differ in a letter or in how many tiles are exchanged; or pairs with the same first change, whose
+/// second ones are such repairs: their numbers among all that were found.
 #[derive(Drop)]
 pub struct Told {
     /// The first of them.
@@ -17,71 +19,101 @@ pub struct Told {
     pub others: Vec<usize>,
 }
 
-/// Whether the repairs at two numbers are alike.
-fn are_like(repairs: &[Repair], first: usize, other: usize) -> bool
-    ensures { result ≡ like_at repairs.now first other }
+/// What may share a line with others of its kind.
+pub(crate) trait Lined {
+    // Whether both are on one line.
+    ghost like: { Self → Self → Bool };
+
+    /// Whether both are on one line.
+    fn shares_line(&self, other: &Self) -> bool
+        ensures { result ≡ like self.now other.now };
+}
+
+impl Lined for Repair {
+    ghost use Rattle.repair_answers.specs.Alike.{is_like};
+
+    ghost like = { is_like };
+
+    fn shares_line(&self, other: &Repair) -> bool {
+        is_like(self, other)
+    }
+}
+
+impl Lined for Pair {
+    ghost use Rattle.repair_answers.specs.Alike.{are_like_pairs};
+
+    ghost like = { are_like_pairs };
+
+    fn shares_line(&self, other: &Pair) -> bool {
+        self.head == other.head && is_like(&self.then, &other.then)
+    }
+}
+
+/// Whether the items at two numbers are alike.
+fn are_like<T: Lined>(items: &[T], first: usize, other: usize) -> bool
+    ensures { result ≡ like_at T.like items.now first other }
 {
-    match (repairs.get(first), repairs.get(other)) {
-        (Some(one), Some(two)) => is_like(one, two),
+    match (items.get(first), items.get(other)) {
+        (Some(one), Some(two)) => one.shares_line(two),
         _ => false,
     }
 }
 
-/// Whether the repair at a number is the first of its line: it is like none before it.
-fn is_first(repairs: &[Repair], index: usize) -> bool
-    ensures { result ≡ is_first repairs.now index }
+/// Whether the item at a number is the first of its line: it is like none before it.
+fn is_first<T: Lined>(items: &[T], index: usize) -> bool
+    ensures { result ≡ is_first T.like items.now index }
 {
     for before in 0..index {
-        if are_like(repairs, before, index) {
+        if are_like(items, before, index) {
             return false;
         }
     }
     true
 }
 
-/// Adds the number of a repair, if it is like the first of a line.
+/// Adds the number of an item, if it is like the first of a line.
 #[tactic(auto, using(crate::proofs::Grouped::one_added, crate::proofs::Grouped::none_added))]
-fn push_like(
+fn push_like<T: Lined>(
     others: &mut Vec<usize>,
-    repairs: &[Repair],
+    items: &[T],
     first: usize,
     other: usize,
 ) -> Result<(), AllocError>
-    ensures { OnOk result (others.new.items ≡ others.old.items ++ those_like repairs.now first other) }
+    ensures { OnOk result (others.new.items ≡ others.old.items ++ those_like T.like items.now first other) }
 {
-    if !are_like(repairs, first, other) {
+    if !are_like(items, first, other) {
         return Ok(());
     }
     others.push(other)?;
     Ok(())
 }
 
-/// The numbers of the repairs after one that are like it.
-fn others_of(alloc: Global, repairs: &[Repair], first: usize) -> Result<Vec<usize>, AllocError>
-    requires { first < length repairs.now }
-    ensures { IfOk result (λ others. others.items ≡ others_of repairs.now first) }
+/// The numbers of the items after one that are like it.
+fn others_of<T: Lined>(alloc: Global, items: &[T], first: usize) -> Result<Vec<usize>, AllocError>
+    requires { first < length items.now }
+    ensures { IfOk result (λ others. others.items ≡ others_of T.like items.now first) }
 {
     let mut others = Vec::new(alloc);
-    for other in first + 1..repairs.len() {
-        push_like(&mut others, repairs, first, other)?;
+    for other in first + 1..items.len() {
+        push_like(&mut others, items, first, other)?;
     }
     Ok(others)
 }
 
-/// Adds the line of the repair at a number, if the repair is the first of a line.
-fn push_line(
+/// Adds the line of the item at a number, if the item is the first of a line.
+fn push_line<T: Lined>(
     alloc: Global,
     lines: &mut Vec<Told>,
-    repairs: &[Repair],
+    items: &[T],
     index: usize,
 ) -> Result<(), AllocError>
-    requires { index < length repairs.now }
-    ensures { OnOk result (AddsLine repairs.now index lines.old.items lines.new.items) }
+    requires { index < length items.now }
+    ensures { OnOk result (AddsLine T.like items.now index lines.old.items lines.new.items) }
 {
-    if !is_first(repairs, index) {
+    if !is_first(items, index) {
         return Ok(());
     }
-    let others = others_of(alloc, repairs, index)?;
+    let others = others_of(alloc, items, index)?;
     lines.push(Told {
         first: index,
         others,
@@ -89,20 +121,20 @@ fn push_line(
     Ok(())
 }
 
-/// The first `most` lines of repairs.
-pub(crate) fn lines_of(
+/// The first `most` lines of repairs, or of pairs of changes.
+pub(crate) fn lines_of<T: Lined>(
     alloc: Global,
-    repairs: &[Repair],
+    items: &[T],
     most: usize,
 ) -> Result<Vec<Told>, AllocError>
-    ensures { IfOk result (λ lines. AreLines repairs.now most lines.items) }
+    ensures { IfOk result (λ lines. AreLines T.like items.now most lines.items) }
 {
     let mut lines = Vec::new(alloc);
-    for index in 0..repairs.len() {
+    for index in 0..items.len() {
         if lines.len() == most {
             return Ok(lines);
         }
-        push_line(alloc, &mut lines, repairs, index)?;
+        push_line(alloc, &mut lines, items, index)?;
     }
     Ok(lines)
 }

@@ -1,5 +1,7 @@
 //! The repair of a record that is likelier than all others by far.
 ghost use Rattle.std.specs.Prelude.{◌≡◌, IfOk, OnOk};
+ghost use Rattle.game_rows.specs.Walks.{IsWalkOf};
+ghost use Rattle.game_case.specs.Explaining.{HasItsWalk};
 ghost use Rattle.lex_check.specs.Pairs.{list_in};
 ghost use Rattle.repair_answers.specs.Choices.{all_known};
 ghost use Rattle.repair_answers.specs.Likely.{IsFirstChange, IsFirstSheet, IsLikelyOf, IsLikely, IsLikelyFor, IsLikelyOfCase};
@@ -12,7 +14,7 @@ use crate::sheets::sheet_repairs;
 use crate::singles::first_repairs;
 use crate::unchanged::unchanged;
 use game_case::{Case, Entry, Finding};
-use game_rows::walk_as_written;
+use game_rows::Walk;
 use gcg_read::Record;
 use lex_check::Checked;
 use record_repairs::{Found, Repair};
@@ -92,31 +94,32 @@ fn chosen(
     }
 }
 
-/// The likely repair of a record, given its text: the first, if it is ahead by at least a wrong number of all others, but for those that only say less, of the
+/// The likely repair of a record, given the walk over it and its text: the first, if it is ahead by at least a wrong number of all others, but for those that only say less, of the
 /// slips of the whole sheet and the record with only its numbers corrected, and if no two changes cost less; or a slip of the whole sheet that is ahead of
 /// all of them, without which every number is right. There is none if the search took too many steps to try each change. Afterwards the record is as it was.
 ///
 /// It fails only if memory runs out.
-pub fn likely_repair(
+fn likely_repair(
     alloc: Global,
     rules: &Rules,
     pair: &Checked<'_>,
     game: &mut Record,
+    walk: &Walk,
     text: &[u8],
 ) -> Result<Option<Likely>, AllocError>
+    requires { IsWalkOf rules.now (list_in pair.now) game.old.events walk.now }
     ensures likely { IfOk result (IsLikely rules.now (list_in pair.now) text.now game.old.events) }
     ensures same { OnOk result (game.new ≡ game.old) }
 {
     let list = pair.list();
     let alone = unchanged(alloc, rules, list, game)?;
     let below = below_of(&alone);
-    let walk = walk_as_written(alloc, rules, list, &mut game.events)?;
     let limit = Some(STEPS);
     let singles = first_repairs(
         alloc,
         rules,
         pair,
-        &walk,
+        walk,
         &mut game.events,
         &alone,
         below,
@@ -138,27 +141,27 @@ pub fn likely_repair(
         list,
         text,
         game.events.as_slice(),
-        &walk,
+        walk,
         &alone,
     )?;
     Ok(chosen(&alone, singles.found, two.told.as_slice(), sheets))
 }
 
-/// The likely repair of a record that was judged, if it is illegal, given its text. Afterwards the entry is as it was.
-///
-/// It fails only if memory runs out.
-pub fn likely_in(
+/// The likely repair of a record that was judged, if it is illegal, given the walk over it and its text. Afterwards the entry is as it was.
+fn likely_in(
     alloc: Global,
     rules: &Rules,
     pair: &Checked<'_>,
     entry: &mut Entry,
+    walk: &Walk,
     text: &[u8],
 ) -> Result<Option<Likely>, AllocError>
+    requires { IsWalkOf rules.now (list_in pair.now) entry.old.record.events walk.now }
     ensures likely { IfOk result (IsLikelyFor rules.now (list_in pair.now) entry.old.finding text.now entry.old.record.events) }
     ensures same { OnOk result (entry.new ≡ entry.old) }
 {
     match entry.finding {
-        Finding::Illegal { .. } => likely_repair(alloc, rules, pair, &mut entry.record, text),
+        Finding::Illegal { .. } => likely_repair(alloc, rules, pair, &mut entry.record, walk, text),
         _ => Ok(None),
     }
 }
@@ -166,17 +169,22 @@ pub fn likely_in(
 /// The likely repair of the record of a case, if it is illegal. Afterwards the case is as it was.
 ///
 /// It fails only if memory runs out.
+#[tactic(auto, using(crate::proofs::Answered::none_likely, crate::proofs::Answered::walked_entry))]
 pub fn likely_in_case(
     alloc: Global,
     rules: &Rules,
     pair: &Checked<'_>,
     case: &mut Case,
 ) -> Result<Option<Likely>, AllocError>
+    requires { HasItsWalk rules.now (list_in pair.now) case.old }
     ensures likely { IfOk result (IsLikelyOfCase rules.now (list_in pair.now) case.old.text.items case.old.read) }
     ensures same { OnOk result (case.new ≡ case.old) }
 {
+    let Some(walk) = &case.walk else {
+        return Ok(None);
+    };
     match &mut case.read {
-        Ok(entry) => likely_in(alloc, rules, pair, entry, case.text.as_slice()),
+        Ok(entry) => likely_in(alloc, rules, pair, entry, walk, case.text.as_slice()),
         Err(_) => Ok(None),
     }
 }

@@ -8,8 +8,8 @@ use change_lists::{law_of_slips, slips_at};
 use game_rows::Walk;
 use gcg_read::Event;
 use lex_list::WordList;
+use record_repairs::game_before;
 use ref_tiles::Rules;
-use repair_pairs::game_before;
 use std::alloc::{AllocError, Global};
 
 /// How many steps a search may take at least: about as many as the events that it goes over.

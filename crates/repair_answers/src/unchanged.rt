@@ -3,6 +3,7 @@ ghost use Rattle.std.specs.Prelude.{◌≡◌, ◌++◌, filter, IfOk, OnOk};
 ghost use Rattle.event_notes.specs.Unlisted.{letters_in};
 ghost use Rattle.game_turns.specs.Passing.{rules_in, record_in, list_in};
 ghost use Rattle.game_turns.specs.Places.{AreAllowed};
+ghost use Rattle.game_rows.specs.Walks.{GoesThrough};
 ghost use Rattle.record_repairs.specs.Remaining.{is_on_line, words_of_rows};
 ghost use Rattle.repair_answers.specs.Unchanged.{IsFound, IsUnchanged, AreLeft, HasOtherNumbers};
 
@@ -10,9 +11,9 @@ use crate::numbers_alone::NumbersAlone;
 use deal_cuts::law_of_fronts;
 use event_notes::{SpelledWord, unlisted_of};
 use game_deal::{RackFinding, law_of_bounds, settle_racks};
-use game_rows::{Audited, Row, audit, numbers_of, renumber};
+use game_rows::{Audited, Row, Walk, audit, numbers_of, renumber};
 use game_sheets::{WrongNumber, law_of_points};
-use game_turns::{Passed, play_through};
+use game_turns::Passed;
 use gcg_read::Record;
 use lex_list::WordList;
 use record_repairs::Remains;
@@ -87,20 +88,21 @@ fn is_dealt(alloc: Global, passed: &Passed<'_>) -> Result<Option<bool>, AllocErr
     }
 }
 
-/// Whether a deal was found of the racks of a record of which the rules allow each event; none if no deal yields them.
+/// Whether a deal was found of the racks of a record of which the rules allow each event, by the walk that went through it; none if no deal yields them.
 fn settled(
     alloc: Global,
     rules: &Rules,
     list: &WordList,
     game: &Record,
+    walk: &Walk,
 ) -> Result<Option<bool>, AllocError>
-    requires { AreAllowed rules.now list.now game.now.events }
+    requires allowed { AreAllowed rules.now list.now game.now.events }
+    requires walked { GoesThrough rules.now list.now game.now.events walk.now }
     ensures { IfOk result (IsFound rules.now list.now game.now.events) }
 {
-    match play_through(rules, game, list) {
-        Ok(passed) => is_dealt(alloc, &passed),
-        Err(_) => unreachable!(),
-    }
+    let complete = walk.end().finished();
+    let passed = Passed::of_allowed(rules, game, list, complete);
+    is_dealt(alloc, &passed)
 }
 
 /// What is wrong with a record, as [`unchanged`] says. Afterwards the record has its right numbers.
@@ -118,7 +120,7 @@ fn with_right_numbers(
         return Ok(None);
     }
     law_of_points(game.events.as_slice());
-    let Some(is_game) = settled(alloc, rules, list, game)? else {
+    let Some(is_game) = settled(alloc, rules, list, game, &audited.walk)? else {
         return Ok(None);
     };
     let right = numbers_of(alloc, game.events.as_slice())?;

@@ -1,8 +1,10 @@
 //! The chain of the cheapest changes.
-ghost use Rattle.std.specs.Prelude.{◌≡◌, ◌∷◌, [], None, IsTrue, IfOk, IfSome, OnOk};
+ghost use Rattle.std.specs.Prelude.{◌≡◌, ◌≤◌, ◌+◌, ◌-◌, ◌*◌, ◌∷◌, [], None, IsTrue, IfOk, IfSome, OnOk, length, map, sum, if◌then◌else◌};
 ghost use Rattle.record_repairs.specs.Repairs.{IsRepair};
 ghost use Rattle.repair_pairs.specs.Pairs.{ConcernsSheet, WrongOnSheet};
+ghost use Rattle.record_changes.specs.Numbers.{leaves_out};
 ghost use Rattle.repair_chains.specs.Chains.{IsFirst, IsLast, IsChain};
+ghost use Rattle.repair_chains.specs.Totals.{chain_cost, chain_numbers, chain_weight, left_of, step_weight};
 
 use gcg_read::{Event, Events};
 use lex_list::WordList;
@@ -34,7 +36,9 @@ pub struct Chain {
 }
 
 /// How many events a sheet of `events` events has without a line that should not be there, or as many.
-fn without(slip: &Slip, events: usize) -> usize {
+fn without(slip: &Slip, events: usize) -> usize
+    ensures { result ≡ (if leaves_out slip.now then events - 1 else events) }
+{
     if numbers_with(slip, events) < 2 * events as u128 {
         events.saturating_sub(1)
     } else {
@@ -42,30 +46,55 @@ fn without(slip: &Slip, events: usize) -> usize {
     }
 }
 
+/// How many events a sheet of `events` events has without the lines that changes leave out.
+fn left_of(steps: &[Head], events: usize) -> usize
+    ensures { result ≡ left_of steps.now events }
+{
+    let mut left = events;
+    for step in steps {
+        left = without(&step.first.change.slip, left);
+    }
+    left
+}
+
+/// What changes weigh.
+fn step_weights(steps: &[Head]) -> u128
+    ensures weight { result ≡ sum (map step_weight steps.now) }
+    ensures few { result ≤ 18446744073709551615 * length steps.now }
+{
+    let mut weight = 0;
+    for number in 0..steps.len() {
+        weight += weight_of(&steps[number].first.change.slip) as u128;
+    }
+    weight
+}
+
 impl Chain {
     /// How many numbers a sheet of `events` events has with all changes: a score and a total on each line, except those that should not be there.
-    pub fn numbers(&self, events: usize) -> u128 {
-        let mut left = events;
-        for step in self.steps.as_slice() {
-            left = without(&step.first.change.slip, left);
-        }
-        numbers_with(&self.last.listed.change.slip, left)
+    pub fn numbers(&self, events: usize) -> u128
+        ensures { result ≡ chain_numbers self.now events }
+    {
+        numbers_with(
+            &self.last.listed.change.slip,
+            left_of(self.steps.as_slice(), events),
+        )
     }
 
     /// What all changes weigh.
-    pub fn weight(&self) -> usize {
-        let mut weight = weight_of(&self.last.listed.change.slip);
-        for step in self.steps.as_slice() {
-            weight = weight.saturating_add(weight_of(&step.first.change.slip));
-        }
-        weight
+    pub fn weight(&self) -> u128
+        ensures weight { result ≡ chain_weight self.now }
+        ensures few { result ≤ 18446744073709551615 * (length self.now.steps.items + 1) }
+    {
+        step_weights(self.steps.as_slice()) + weight_of(&self.last.listed.change.slip) as u128
     }
 
     /// What all changes cost: what they weigh, 5 for each number that stays wrong, and 3 for each word that is not in the list.
-    pub fn cost(&self) -> u128 {
+    pub fn cost(&self) -> u128
+        ensures { result ≡ chain_cost self.now }
+    {
         let wrong = self.last.remains.wrong.len() as u128;
         let unlisted = self.last.remains.unlisted.len() as u128;
-        NUMBER * wrong + WORD * unlisted + self.weight() as u128
+        NUMBER * wrong + WORD * unlisted + self.weight()
     }
 }
 

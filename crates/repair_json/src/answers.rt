@@ -1,193 +1,231 @@
-//! An answer as an object.
+//! An answer as a tree.
+ghost use Rattle.std.specs.Prelude.{◌≡◌, IfOk, map, option_map};
+ghost use Rattle.json_trees.specs.Trees.{view};
+ghost use Rattle.json_trees.specs.Values.{array_of, object_of};
+ghost use Rattle.repair_json.specs.Answers.{alone_value, answer_object, faulty_fields, pair_with, pairs_value, repairs_value, settled_value, sound_fields, told_pair, told_repair};
+ghost use Rattle.repair_json.specs.Sheets.{sheet_object};
 
-use crate::chains::{ChainObject, chain_object};
-use crate::changes::{RepairObject, repair_object};
-use crate::evidence::{EvidenceObject, evidence_object};
-use crate::pairs::{PairObject, pair_object};
-use crate::sheets::{SheetObject, sheet_object};
-use answer_json::{
-    FaultObject, UnreadObject, VerdictFields, push_object, unread_objects, verdict_fields,
+use crate::chains::chain_or_null;
+use crate::changes::repair_tree;
+use crate::evidence::evidence_tree;
+use crate::pairs::pair_tree;
+use crate::sheets::sheet_tree;
+use answer_json::{ending_tree, fault_line_tree, fault_tree, item_at, unread_array, verdict_name};
+use call_stages::Verdict;
+use gcg_read::{Event, Players, Record};
+use json_trees::{
+    Tree, array, bool_tree, name_tree, null_tree, object, push_if, size_tree, wide_tree,
 };
-use gcg_read::Record;
-use repair_answers::{Faulty, RepairAnswer};
+use record_repairs::Repair;
+use repair_answers::{Faulty, NumbersAlone, RepairAnswer, SheetRepair, Told};
 use repair_chains::Chain;
-use serde::Serialize;
+use repair_pairs::{Pair, Pairs};
 use std::alloc::{AllocError, Global};
 use unread_lines::UnreadLine;
 
-/// An answer. What is said only of an illegal record is null for every other.
-#[derive(Drop, Serialize)]
-struct AnswerObject {
-    verdict: &'static str,
-    line: Option<u32>,
-    fault: Option<FaultObject>,
-    ending: Option<&'static str>,
-    numbers_alone: Option<EvidenceObject>,
-    repairs: Vec<RepairObject>,
-    pairs: Vec<PairObject>,
-    chain: Option<ChainObject>,
-    left: Option<usize>,
-    tried: Option<u128>,
-    untried: Option<u128>,
-    numbers_alone_settled: Option<bool>,
-    sheet_slips: Vec<SheetObject>,
-    unread_lines: Vec<UnreadObject>,
-}
-
-/// That a record has no event.
-#[derive(Drop, Serialize)]
-struct NoGameObject {
-    verdict: &'static str,
-    line: Option<u32>,
-    fault: Option<FaultObject>,
-    unread_lines: Vec<UnreadObject>,
-}
-
-/// The repairs, a line for each.
-fn repair_objects(
+/// What stays wrong if the numbers alone are corrected; null if the record is no game then.
+fn alone_tree(
     alloc: Global,
-    record: &Record,
-    faulty: &Faulty,
-) -> Result<Vec<RepairObject>, AllocError> {
-    let players = &record.players;
-    let events = record.events.as_slice();
-    let repairs = faulty.found.told.as_slice();
-    let mut objects = Vec::new(alloc);
-    for told in faulty.lines.as_slice() {
-        if let Some(repair) = repairs.get(told.first) {
-            objects.push(repair_object(alloc, players, events, repairs, repair, told)?)?;
-        }
+    events: &[Event],
+    alone: &Option<NumbersAlone>,
+) -> Result<Tree, AllocError>
+    ensures { IfOk result (λ tree. view tree ≡ alone_value events.now alone.now) }
+{
+    match alone {
+        Some(alone) => evidence_tree(alloc, &alone.remains, 2 * events.len() as u128),
+        None => Ok(null_tree()),
     }
-    Ok(objects)
 }
 
-/// The pairs of changes, a line for each.
-fn pair_objects(
-    alloc: Global,
-    record: &Record,
-    faulty: &Faulty,
-) -> Result<Vec<PairObject>, AllocError> {
-    let pairs = &faulty.pairs;
-    let mut objects = Vec::new(alloc);
-    for told in faulty.pair_lines.as_slice() {
-        if let Some(pair) = pairs.told.as_slice().get(told.first) {
-            if let Some(head) = pairs.heads.as_slice().get(pair.head) {
-                objects.push(pair_object(alloc, record, pairs, head, pair, told)?)?;
-            }
-        }
+/// Whether a deal was found then.
+fn settled_tree(alone: &Option<NumbersAlone>) -> Tree
+    ensures { view result ≡ settled_value alone.now }
+{
+    match alone {
+        Some(alone) => bool_tree(alone.is_game),
+        None => null_tree(),
     }
-    Ok(objects)
 }
 
-/// The slips of the whole sheet that repair the record.
-fn sheet_objects(
+/// The repair that a line tells, with those that share the line.
+fn told_repair(
     alloc: Global,
-    record: &Record,
-    faulty: &Faulty,
-) -> Result<Vec<SheetObject>, AllocError> {
-    let mut objects = Vec::new(alloc);
-    for repair in faulty.sheets.as_slice() {
-        objects.push(sheet_object(alloc, record, repair)?)?;
-    }
-    Ok(objects)
-}
-
-/// What is wrong if only the numbers are.
-fn alone_object(
-    alloc: Global,
-    record: &Record,
-    faulty: &Faulty,
-) -> Result<Option<EvidenceObject>, AllocError> {
-    match &faulty.alone {
-        Some(alone) => {
-            let numbers = 2 * record.events.len() as u128;
-            Ok(Some(evidence_object(alloc, &alone.remains, numbers)?))
+    game: &Record,
+    repairs: &[Repair],
+    told: &Told,
+) -> Result<Option<Tree>, AllocError>
+    ensures { IfOk result (λ tree. option_map view tree ≡ told_repair game.now repairs.now told.now) }
+{
+    let players = &game.players;
+    let events = game.events.as_slice();
+    match item_at(repairs, told.first) {
+        Some(repair) => {
+            let others = told.others.as_slice();
+            Ok(Some(repair_tree(alloc, players, events, repairs, repair, others)?))
         }
         None => Ok(None),
     }
 }
 
-/// The object of an illegal record.
-fn faulty_object(
+/// The repairs, one for each line.
+#[tactic(auto, using(std::proofs::lemmas::Grind::common_steps, json_trees::proofs::Lists::kept))]
+fn repairs_array(
     alloc: Global,
-    fields: VerdictFields,
-    record: &Record,
-    faulty: &Faulty,
-    chain: &Option<Chain>,
-    unread_lines: Vec<UnreadObject>,
-) -> Result<AnswerObject, AllocError> {
-    Ok(AnswerObject {
-        verdict: fields.verdict,
-        line: fields.line,
-        fault: fields.fault,
-        ending: fields.ending,
-        numbers_alone: alone_object(alloc, record, faulty)?,
-        repairs: repair_objects(alloc, record, faulty)?,
-        pairs: pair_objects(alloc, record, faulty)?,
-        chain: chain_object(alloc, record, chain)?,
-        left: Some(faulty.found.left.len()),
-        tried: Some(faulty.tried),
-        untried: Some(faulty.untried),
-        numbers_alone_settled: faulty.alone.as_ref().map(|alone| alone.is_game),
-        sheet_slips: sheet_objects(alloc, record, faulty)?,
-        unread_lines,
-    })
+    game: &Record,
+    repairs: &[Repair],
+    lines: &[Told],
+) -> Result<Tree, AllocError>
+    ensures { IfOk result (λ tree. view tree ≡ repairs_value game.now repairs.now lines.now) }
+{
+    let mut trees = Vec::new(alloc);
+    for told in lines {
+        push_if(&mut trees, told_repair(alloc, game, repairs, told)?)?;
+    }
+    Ok(array(trees))
 }
 
-/// The object of any other record.
-fn bare_object(
+/// A pair, with those that share its line.
+fn pair_with(
     alloc: Global,
-    fields: VerdictFields,
-    unread_lines: Vec<UnreadObject>,
-) -> AnswerObject {
-    AnswerObject {
-        verdict: fields.verdict,
-        line: fields.line,
-        fault: fields.fault,
-        ending: fields.ending,
-        numbers_alone: None,
-        repairs: Vec::new(alloc),
-        pairs: Vec::new(alloc),
-        chain: None,
-        left: None,
-        tried: None,
-        untried: None,
-        numbers_alone_settled: None,
-        sheet_slips: Vec::new(alloc),
-        unread_lines,
+    game: &Record,
+    pairs: &Pairs,
+    others: &[usize],
+    pair: &Pair,
+) -> Result<Option<Tree>, AllocError>
+    ensures { IfOk result (λ tree. option_map view tree ≡ pair_with game.now pairs.now others.now pair.now) }
+{
+    let told = pairs.told.as_slice();
+    match item_at(pairs.heads.as_slice(), pair.head) {
+        Some(head) => Ok(Some(pair_tree(alloc, game, told, head, pair, others)?)),
+        None => Ok(None),
     }
 }
 
-/// Appends an answer on a record: its verdict; if it is illegal, its repairs with their evidence; and the lines that are not read.
-///
-/// It fails only if memory runs out.
-pub fn push_repair_answer(
+/// The pair that a line tells, with those that share the line.
+fn told_pair(
     alloc: Global,
-    text: &mut Vec<u8>,
-    record: &Record,
-    answer: &RepairAnswer,
-    unread: &[UnreadLine],
-) -> Result<(), AllocError> {
-    let fields = verdict_fields(alloc, &answer.verdict)?;
-    let unread = unread_objects(alloc, unread)?;
-    let object = match &answer.faulty {
-        Some(faulty) => faulty_object(alloc, fields, record, faulty, &answer.chain, unread)?,
-        None => bare_object(alloc, fields, unread),
-    };
-    push_object(alloc, text, &object)
+    game: &Record,
+    pairs: &Pairs,
+    told: &Told,
+) -> Result<Option<Tree>, AllocError>
+    ensures { IfOk result (λ tree. option_map view tree ≡ told_pair game.now pairs.now told.now) }
+{
+    match item_at(pairs.told.as_slice(), told.first) {
+        Some(pair) => pair_with(alloc, game, pairs, told.others.as_slice(), pair),
+        None => Ok(None),
+    }
 }
 
-/// Appends that a record has no event, with the lines that are not read.
-pub fn push_no_game(
+/// The pairs, one for each line.
+#[tactic(auto, using(std::proofs::lemmas::Grind::common_steps, json_trees::proofs::Lists::kept))]
+fn pairs_array(
     alloc: Global,
-    text: &mut Vec<u8>,
+    game: &Record,
+    pairs: &Pairs,
+    lines: &[Told],
+) -> Result<Tree, AllocError>
+    ensures { IfOk result (λ tree. view tree ≡ pairs_value game.now pairs.now lines.now) }
+{
+    let mut trees = Vec::new(alloc);
+    for told in lines {
+        push_if(&mut trees, told_pair(alloc, game, pairs, told)?)?;
+    }
+    Ok(array(trees))
+}
+
+/// The slips of the whole sheet.
+fn sheets_array(
+    alloc: Global,
+    players: &Players,
+    repairs: &[SheetRepair],
+) -> Result<Tree, AllocError>
+    ensures { IfOk result (λ tree. view tree ≡ array_of (map (sheet_object players.now) repairs.now)) }
+{
+    let mut trees = Vec::new(alloc);
+    for repair in repairs {
+        trees.push(sheet_tree(alloc, players, repair)?)?;
+    }
+    Ok(array(trees))
+}
+
+/// What repairs an illegal record.
+fn faulty_tree(
+    alloc: Global,
+    game: &Record,
+    verdict: &Verdict,
+    faulty: &Faulty,
+    chain: &Option<Chain>,
     unread: &[UnreadLine],
-) -> Result<(), AllocError> {
-    let object = NoGameObject {
-        verdict: "no game",
-        line: None,
-        fault: None,
-        unread_lines: unread_objects(alloc, unread)?,
-    };
-    push_object(alloc, text, &object)
+) -> Result<Tree, AllocError>
+    ensures { IfOk result (λ tree. view tree ≡ object_of (faulty_fields game.now verdict.now faulty.now chain.now unread.now)) }
+{
+    let fault = fault_tree(alloc, verdict)?;
+    let alone = alone_tree(alloc, game.events.as_slice(), &faulty.alone)?;
+    let told = faulty.found.told.as_slice();
+    let repairs = repairs_array(alloc, game, told, faulty.lines.as_slice())?;
+    let pairs = pairs_array(alloc, game, &faulty.pairs, faulty.pair_lines.as_slice())?;
+    let chain = chain_or_null(alloc, game, chain)?;
+    let sheets = sheets_array(alloc, &game.players, faulty.sheets.as_slice())?;
+    let unread = unread_array(alloc, unread)?;
+    let fields = vec![in alloc;
+        ("verdict", name_tree(verdict_name(verdict))),
+        ("line", fault_line_tree(verdict)),
+        ("fault", fault),
+        ("ending", ending_tree(verdict)),
+        ("numbers_alone", alone),
+        ("repairs", repairs),
+        ("pairs", pairs),
+        ("chain", chain),
+        ("left", size_tree(faulty.found.left.len())),
+        ("tried", wide_tree(faulty.tried)),
+        ("untried", wide_tree(faulty.untried)),
+        ("numbers_alone_settled", settled_tree(&faulty.alone)),
+        ("sheet_slips", sheets),
+        ("unread_lines", unread),
+    ]?;
+    Ok(object(fields))
+}
+
+/// That a record is not illegal, so that nothing repairs it.
+fn sound_tree(alloc: Global, verdict: &Verdict, unread: &[UnreadLine]) -> Result<Tree, AllocError>
+    ensures { IfOk result (λ tree. view tree ≡ object_of (sound_fields verdict.now unread.now)) }
+{
+    let fault = fault_tree(alloc, verdict)?;
+    let unread = unread_array(alloc, unread)?;
+    let fields = vec![in alloc;
+        ("verdict", name_tree(verdict_name(verdict))),
+        ("line", fault_line_tree(verdict)),
+        ("fault", fault),
+        ("ending", ending_tree(verdict)),
+        ("numbers_alone", null_tree()),
+        ("repairs", array(Vec::new(alloc))),
+        ("pairs", array(Vec::new(alloc))),
+        ("chain", null_tree()),
+        ("left", null_tree()),
+        ("tried", null_tree()),
+        ("untried", null_tree()),
+        ("numbers_alone_settled", null_tree()),
+        ("sheet_slips", array(Vec::new(alloc))),
+        ("unread_lines", unread),
+    ]?;
+    Ok(object(fields))
+}
+
+/// What repairs a record: its verdict; if it is illegal, its repairs with their evidence; and the lines that are not read.
+///
+/// # Errors
+///
+/// Memory was refused.
+pub fn answer_tree(
+    alloc: Global,
+    game: &Record,
+    answer: &RepairAnswer,
+    unread: &[UnreadLine],
+) -> Result<Tree, AllocError>
+    ensures { IfOk result (λ tree. view tree ≡ answer_object game.now answer.now unread.now) }
+{
+    match &answer.faulty {
+        Some(faulty) => faulty_tree(alloc, game, &answer.verdict, faulty, &answer.chain, unread),
+        None => sound_tree(alloc, &answer.verdict, unread),
+    }
 }

@@ -1,93 +1,88 @@
-//! What repairs a text that is not a record, as an object.
+//! What repairs a text that is not a record, as a tree.
+ghost use Rattle.std.specs.Prelude.{◌≡◌, IfOk, map};
+ghost use Rattle.json_trees.specs.Trees.{view};
+ghost use Rattle.json_trees.specs.Values.{array_of};
+ghost use Rattle.repair_json.specs.BadRecords.{bad_object, found_in, missing_place, slip_object};
 
-use crate::evidence::{EvidenceObject, evidence_object};
+use crate::evidence::evidence_tree;
 use crate::slip_names::sheet_slip_name;
-use answer_json::{FaultObject, play_fields, push_object};
+use answer_json::{place_tree, refused_fields};
 use call_stages::InputFault;
-use fault_names::named_input;
 use gcg_read::ReadFault;
+use json_trees::{
+    Tree, array, bool_tree, count_tree, name_tree, null_tree, object, size_tree, wide_tree,
+    with_field_if,
+};
 use repair_answers::{LineRepairs, SheetRepair};
-use serde::Serialize;
 use sheet_slips::{SheetSlip, weight_of};
 use std::alloc::{AllocError, Global};
 
-/// A slip of a line that repairs a text: the line, the place if that is missing, and the evidence.
-#[derive(Drop, Serialize)]
-struct LineObject {
-    slip: &'static str,
-    line: u32,
-    place: Option<String>,
-    settled: bool,
-    weight: usize,
-    cost: u128,
-    evidence: EvidenceObject,
-}
-
-/// That a text is not a record, and what repairs it.
-#[derive(Drop, Serialize)]
-struct BadRecordObject {
-    verdict: &'static str,
-    line: Option<u32>,
-    fault: Option<FaultObject>,
-    line_slips: Vec<LineObject>,
-}
-
-/// The place that a line should have, if that is what is wrong.
-fn place_of(alloc: Global, slip: &SheetSlip) -> Result<Option<String>, AllocError> {
+/// The place that a line should have; null if that is not what is wrong.
+fn missing_place(alloc: Global, slip: &SheetSlip) -> Result<Tree, AllocError>
+    ensures { IfOk result (λ tree. view tree ≡ missing_place slip.now) }
+{
     match slip {
-        SheetSlip::NoPlace { at, dir, .. } => Ok(Some(play_fields(alloc, *at, *dir, &[])?.place)),
-        _ => Ok(None),
+        SheetSlip::NoPlace { at, dir, .. } => place_tree(alloc, *at, *dir),
+        SheetSlip::Unread(_) | SheetSlip::ExtraMark { .. } | SheetSlip::Running { .. } => {
+            Ok(null_tree())
+        }
     }
 }
 
 /// A slip of the line with this number that repairs a text.
-fn line_object(alloc: Global, line: u32, repair: &SheetRepair) -> Result<LineObject, AllocError> {
+fn slip_tree(alloc: Global, line: u32, repair: &SheetRepair) -> Result<Tree, AllocError>
+    ensures { IfOk result (λ tree. view tree ≡ slip_object line repair.now) }
+{
     let numbers = 2 * repair.right.len() as u128;
-    Ok(LineObject {
-        slip: sheet_slip_name(&repair.slip),
-        line,
-        place: place_of(alloc, &repair.slip)?,
-        settled: repair.alone.is_game,
-        weight: weight_of(&repair.slip),
-        cost: repair.cost,
-        evidence: evidence_object(alloc, &repair.alone.remains, numbers)?,
-    })
+    let place = missing_place(alloc, &repair.slip)?;
+    let evidence = evidence_tree(alloc, &repair.alone.remains, numbers)?;
+    let fields = vec![in alloc;
+        ("slip", name_tree(sheet_slip_name(&repair.slip))),
+        ("line", count_tree(line)),
+        ("place", place),
+        ("settled", bool_tree(repair.alone.is_game)),
+        ("weight", size_tree(weight_of(&repair.slip))),
+        ("cost", wide_tree(repair.cost)),
+        ("evidence", evidence),
+    ]?;
+    Ok(object(fields))
+}
+
+/// The slips of a line that were found to repair a text.
+fn found_in(repairs: &Option<LineRepairs>) -> &[SheetRepair]
+    ensures { result.now ≡ found_in repairs.now }
+{
+    match repairs {
+        Some(repairs) => repairs.found.as_slice(),
+        None => &[],
+    }
 }
 
 /// The slips of the line with this number that repair a text.
-fn line_objects(
-    alloc: Global,
-    line: u32,
-    repairs: &Option<LineRepairs>,
-) -> Result<Vec<LineObject>, AllocError> {
-    let mut objects = Vec::new(alloc);
-    if let Some(repairs) = repairs {
-        for repair in repairs.found.as_slice() {
-            objects.push(line_object(alloc, line, repair)?)?;
-        }
+fn slips_array(alloc: Global, line: u32, repairs: &[SheetRepair]) -> Result<Tree, AllocError>
+    ensures { IfOk result (λ tree. view tree ≡ array_of (map (slip_object line) repairs.now)) }
+{
+    let mut trees = Vec::new(alloc);
+    for repair in repairs {
+        trees.push(slip_tree(alloc, line, repair)?)?;
     }
-    Ok(objects)
+    Ok(array(trees))
 }
 
-/// Appends that a text is not a record, and what repairs it.
+/// That a text is not a record, and what repairs it.
 ///
-/// It fails only if memory runs out.
-pub fn push_bad_repairs(
+/// # Errors
+///
+/// Memory was refused.
+pub fn bad_tree(
     alloc: Global,
-    text: &mut Vec<u8>,
     fault: ReadFault,
     repairs: &Option<LineRepairs>,
-) -> Result<(), AllocError> {
-    let named = named_input(&InputFault::Game(fault));
-    let object = BadRecordObject {
-        verdict: named.what,
-        line: if named.line == 0 {
-            None
-        } else {
-            Some(named.line)
-        },
-        fault: FaultObject::of_input(alloc, &named)?,
-        line_slips: line_objects(alloc, fault.line, repairs)?,
-    };
-    push_object(alloc, text, &object)
+) -> Result<Tree, AllocError>
+    ensures { IfOk result (λ tree. view tree ≡ bad_object fault repairs.now) }
+{
+    let slips = slips_array(alloc, fault.line, found_in(repairs))?;
+    let fields = refused_fields(alloc, &InputFault::Game(fault))?;
+    let fields = with_field_if(fields, "line_slips", Some(slips))?;
+    Ok(object(fields))
 }

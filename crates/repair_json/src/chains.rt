@@ -1,82 +1,131 @@
-//! Several changes as an object.
+//! Several changes as a tree.
+ghost use Rattle.std.specs.Prelude.{◌≡◌, ◌++◌, IfOk, OnOk, map};
+ghost use Rattle.json_trees.specs.Trees.{view};
+ghost use Rattle.json_trees.specs.Values.{array_of};
+ghost use Rattle.record_changes.specs.Spots.{spot_of};
+ghost use Rattle.repair_chains.specs.Spots.{later_spot};
+ghost use Rattle.repair_json.specs.Changes.{change_object};
+ghost use Rattle.repair_json.specs.Chains.{all_changes, chain_object, chain_value, later_changes};
 
-use crate::evidence::{EvidenceObject, evidence_object};
-use crate::pairs::{ChangeObject, change_object};
-use gcg_read::{Event, Record};
-use record_changes::{second_spot, spot_of};
-use repair_chains::Chain;
-use serde::Serialize;
+use crate::changes::change_tree;
+use crate::evidence::evidence_tree;
+use gcg_read::{Event, Players, Record};
+use json_trees::{Tree, array, null_tree, object, wide_tree};
+use record_changes::{Change, spot_of};
+use record_repairs::Repair;
+use repair_chains::{Chain, later_spot};
+use repair_pairs::Head;
 use std::alloc::{AllocError, Global};
 
-/// Changes that repair a record one after the other, and the evidence.
-#[derive(Drop, Serialize)]
-pub(crate) struct ChainObject {
-    changes: Vec<ChangeObject>,
-    weight: usize,
-    cost: u128,
-    evidence: EvidenceObject,
-}
-
-/// The events before the change with a number: those of the record, or those that the change before it makes.
-fn events_before<'a>(record: &'a Record, chain: &'a Chain, number: usize) -> &'a [Event] {
-    match (number, chain.steps.as_slice().get(number.saturating_sub(1))) {
-        (0, _) | (_, None) => record.events.as_slice(),
-        (_, Some(step)) => step.made.as_slice(),
-    }
-}
-
-/// The changes but the last one.
-fn step_objects(
+/// A change that is made after others, by the events that they make.
+fn later_tree(
     alloc: Global,
-    record: &Record,
-    chain: &Chain,
-) -> Result<Vec<ChangeObject>, AllocError> {
-    let mut objects = Vec::new(alloc);
-    let mut number: usize = 0;
-    for step in chain.steps.as_slice() {
-        let events = events_before(record, chain, number);
-        let change = &step.first.change;
-        let spot = if number == 0 {
-            spot_of(events, change)
-        } else {
-            second_spot(events, change)
-        };
-        let made = step.made.as_slice();
-        objects.push(change_object(alloc, &record.players, events, change, spot, made)?)?;
-        number = number.saturating_add(1);
+    players: &Players,
+    made: &[Event],
+    change: &Change,
+    right: &[Event],
+) -> Result<Tree, AllocError>
+    ensures { IfOk result (λ tree. view tree ≡ change_object players.now made.now change.now (later_spot made.now change.now) right.now) }
+{
+    change_tree(
+        alloc,
+        players,
+        made,
+        change,
+        later_spot(made, change),
+        right,
+    )
+}
+
+/// Appends the changes after those that make some events, and the last one.
+fn push_later(
+    alloc: Global,
+    trees: &mut Vec<Tree>,
+    players: &Players,
+    made: &[Event],
+    steps: &[Head],
+    last: &Repair,
+) -> Result<(), AllocError>
+    ensures { OnOk result (map view trees.new.items ≡ map view trees.old.items ++ later_changes players.now made.now steps.now last.now) }
+{
+    match steps {
+        [] => {
+            let right = last.right.as_slice();
+            trees.push(later_tree(alloc, players, made, &last.listed.change, right)?)?;
+            Ok(())
+        }
+        [step, rest @ ..] => {
+            let right = step.made.as_slice();
+            trees.push(later_tree(alloc, players, made, &step.first.change, right)?)?;
+            push_later(alloc, trees, players, right, rest, last)
+        }
     }
-    Ok(objects)
+}
+
+/// The first change, by the events of the record.
+fn first_tree(
+    alloc: Global,
+    players: &Players,
+    events: &[Event],
+    step: &Head,
+) -> Result<Tree, AllocError>
+    ensures { IfOk result (λ tree. view tree
+        ≡ change_object players.now events.now step.now.first.change (spot_of events.now step.now.first.change) step.now.made) }
+{
+    let change = &step.first.change;
+    let spot = spot_of(events, change);
+    change_tree(alloc, players, events, change, spot, step.made.as_slice())
 }
 
 /// All changes.
-fn change_objects(
+fn changes_array(
     alloc: Global,
-    record: &Record,
-    chain: &Chain,
-) -> Result<Vec<ChangeObject>, AllocError> {
-    let mut objects = step_objects(alloc, record, chain)?;
-    let events = events_before(record, chain, chain.steps.len());
-    let change = &chain.last.listed.change;
-    let right = chain.last.right.as_slice();
-    let spot = second_spot(events, change);
-    objects.push(change_object(alloc, &record.players, events, change, spot, right)?)?;
-    Ok(objects)
+    players: &Players,
+    events: &[Event],
+    steps: &[Head],
+    last: &Repair,
+) -> Result<Tree, AllocError>
+    ensures { IfOk result (λ tree. view tree ≡ array_of (all_changes players.now events.now steps.now last.now)) }
+{
+    let mut trees = Vec::new(alloc);
+    match steps {
+        [] => push_later(alloc, &mut trees, players, events, steps, last)?,
+        [step, rest @ ..] => {
+            trees.push(first_tree(alloc, players, events, step)?)?;
+            push_later(alloc, &mut trees, players, step.made.as_slice(), rest, last)?;
+        }
+    }
+    Ok(array(trees))
 }
 
-/// The changes that repair a record one after the other, if they were found.
-pub(crate) fn chain_object(
+/// The changes that repair a record one after the other, and the evidence.
+fn chain_tree(alloc: Global, game: &Record, chain: &Chain) -> Result<Tree, AllocError>
+    ensures { IfOk result (λ tree. view tree ≡ chain_object game.now chain.now) }
+{
+    let events = game.events.as_slice();
+    let steps = chain.steps.as_slice();
+    let numbers = chain.numbers(events.len());
+    let changes = changes_array(alloc, &game.players, events, steps, &chain.last)?;
+    let evidence = evidence_tree(alloc, &chain.last.remains, numbers)?;
+    let fields = vec![in alloc;
+        ("changes", changes),
+        ("weight", wide_tree(chain.weight())),
+        ("cost", wide_tree(chain.cost())),
+        ("evidence", evidence),
+    ]?;
+    Ok(object(fields))
+}
+
+/// The changes that repair a record one after the other; null if they were not found.
+pub(crate) fn chain_or_null(
     alloc: Global,
-    record: &Record,
+    game: &Record,
     chain: &Option<Chain>,
-) -> Result<Option<ChainObject>, AllocError> {
-    let Some(chain) = chain else {
-        return Ok(None);
-    };
-    let numbers = chain.numbers(record.events.len());
-    Ok(Some(ChainObject {
-        changes: change_objects(alloc, record, chain)?,
-        weight: chain.weight(),
-        cost: chain.cost(),
-        evidence: evidence_object(alloc, &chain.last.remains, numbers)?,
-    }))
+) -> Result<Tree, AllocError>
+    ensures { IfOk result (λ tree. view tree ≡ chain_value game.now chain.now) }
+{
+    match chain {
+        Some(chain) => chain_tree(alloc, game, chain),
+        None => Ok(null_tree()),
+    }
 }

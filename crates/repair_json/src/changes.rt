@@ -1,34 +1,26 @@
-//! A repair as an object.
+//! A change, and a repair, as trees.
+ghost use Rattle.std.specs.Prelude.{◌≡◌, IfOk, drop, map, option_map, take};
+ghost use Rattle.std.specs.List.{filter_map};
+ghost use Rattle.json_trees.specs.Trees.{view};
+ghost use Rattle.json_trees.specs.Values.{array_of};
+ghost use Rattle.repair_json.specs.Changes.{at_word, change_object, coming, event_value, events_value, line_in, lines_value, part_of, put_at, put_by, repair_object, replaced, right_number, single_object};
 
-use crate::evidence::{EvidenceObject, evidence_object};
-use crate::sheets::{SheetLines, sheet_lines};
-use crate::slip_names::{sheet_slip_name, slip_name};
-use answer_json::text_of;
+use crate::evidence::evidence_tree;
+use crate::slip_names::slip_name;
+use answer_json::item_at;
 use gcg_read::{Event, Players, Record};
 use gcg_write::line_text;
+use json_trees::{
+    Tree, array, count_tree, name_tree, object, push_if, size_tree, text_tree, wide_tree,
+};
 use record_changes::{Change, Slip, Spot, numbers_with, spot_of, weight_of, wrong_events};
 use record_repairs::Repair;
-use repair_answers::{SheetRepair, Told};
-use serde::Serialize;
-use sheet_slips::weight_of as weight_of_sheet;
 use std::alloc::{AllocError, Global};
 
-/// A repair: where it is, the lines of the sheet that it replaces, the right lines, and the evidence.
-#[derive(Drop, Serialize)]
-pub struct RepairObject {
-    at: &'static str,
-    line: u32,
-    slip: &'static str,
-    replaces: Vec<u32>,
-    lines: Vec<String>,
-    others: Vec<String>,
-    weight: usize,
-    cost: u128,
-    evidence: EvidenceObject,
-}
-
 /// Whether a change is on a line, before it or after it.
-pub(crate) fn at_name(spot: Spot) -> &'static str {
+fn at_name(spot: Spot) -> &'static str
+    ensures { result.now ≡ at_word spot }
+{
     match spot {
         Spot::On(_) => "on",
         Spot::Before(_) => "before",
@@ -37,29 +29,44 @@ pub(crate) fn at_name(spot: Spot) -> &'static str {
 }
 
 /// The line of the file where a change is.
-pub(crate) fn line_in(spot: Spot) -> u32 {
+fn line_in(spot: Spot) -> u32
+    ensures { result ≡ line_in spot }
+{
     match spot {
         Spot::On(line) | Spot::Before(line) | Spot::Behind(line) => line,
     }
 }
 
-/// The lines of the events that a change replaces.
-pub(crate) fn replaced_lines(
-    alloc: Global,
-    events: &[Event],
-    change: &Change,
-) -> Result<Vec<u32>, AllocError> {
-    let mut lines = Vec::new(alloc);
-    for behind in 0..wrong_events(&change.slip) {
-        if let Some(event) = events.get(change.place.saturating_add(behind)) {
-            lines.push(event.line)?;
-        }
+/// The events from a place on.
+fn events_from(events: &[Event], place: usize) -> &[Event]
+    ensures { result.now ≡ drop place events.now }
+{
+    if place < events.len() {
+        &events[place..]
+    } else {
+        &[]
     }
-    Ok(lines)
 }
 
-/// How many events replace those that a slip concerns.
-fn right_events(slip: &Slip) -> usize {
+/// The first events, or as many as there are.
+#[tactic(auto, using(std::proofs::lemmas::List::take_min))]
+fn first_events(events: &[Event], number: usize) -> &[Event]
+    ensures { result.now ≡ take number events.now }
+{
+    &events[..number.min(events.len())]
+}
+
+/// So many events from a place on, or as many as there are.
+fn part_of(events: &[Event], place: usize, number: usize) -> &[Event]
+    ensures { result.now ≡ part_of events.now place number }
+{
+    first_events(events_from(events, place), number)
+}
+
+/// How many events come in the place of those that a slip concerns.
+fn right_number(slip: &Slip) -> usize
+    ensures { result ≡ right_number slip.now }
+{
     match slip {
         Slip::Repeated | Slip::ExtraPass | Slip::Extra => 0,
         Slip::Missing(_) => 1,
@@ -67,138 +74,179 @@ fn right_events(slip: &Slip) -> usize {
     }
 }
 
+/// The events that a change replaces.
+fn replaced<'a>(events: &'a [Event], change: &Change) -> &'a [Event]
+    ensures { result.now ≡ replaced events.now change.now }
+{
+    part_of(events, change.place, wrong_events(&change.slip))
+}
+
+/// The right events that a change puts in their place.
+fn coming<'a>(right: &'a [Event], change: &Change) -> &'a [Event]
+    ensures { result.now ≡ coming right.now change.now }
+{
+    part_of(right, change.place, right_number(&change.slip))
+}
+
+/// The lines of events.
+fn lines_array(alloc: Global, events: &[Event]) -> Result<Tree, AllocError>
+    ensures { IfOk result (λ tree. view tree ≡ lines_value events.now) }
+{
+    let mut trees = Vec::new(alloc);
+    for event in events {
+        trees.push(count_tree(event.line))?;
+    }
+    Ok(array(trees))
+}
+
 /// The line of an event, as records write it.
-pub(crate) fn event_text(
+pub(crate) fn event_tree(
     alloc: Global,
     players: &Players,
     event: &Event,
-) -> Result<String, AllocError> {
+) -> Result<Tree, AllocError>
+    ensures { IfOk result (λ tree. view tree ≡ event_value players.now event.now) }
+{
     let mut line = Vec::new(alloc);
     line_text(players, event, &mut line)?;
-    text_of(alloc, line.as_slice())
+    text_tree(alloc, line.as_slice())
 }
 
-/// The lines of the events that replace those that a change concerns.
-pub(crate) fn right_lines(
+/// The lines of events, as records write them.
+fn events_array(alloc: Global, players: &Players, events: &[Event]) -> Result<Tree, AllocError>
+    ensures { IfOk result (λ tree. view tree ≡ events_value players.now events.now) }
+{
+    let mut trees = Vec::new(alloc);
+    for event in events {
+        trees.push(event_tree(alloc, players, event)?)?;
+    }
+    Ok(array(trees))
+}
+
+/// One of several changes, by the events that it changes.
+pub(crate) fn change_tree(
     alloc: Global,
     players: &Players,
+    events: &[Event],
     change: &Change,
+    spot: Spot,
     right: &[Event],
-) -> Result<Vec<String>, AllocError> {
-    let mut lines = Vec::new(alloc);
-    for behind in 0..right_events(&change.slip) {
-        if let Some(event) = right.get(change.place.saturating_add(behind)) {
-            lines.push(event_text(alloc, players, event)?)?;
-        }
-    }
-    Ok(lines)
+) -> Result<Tree, AllocError>
+    ensures { IfOk result (λ tree. view tree ≡ change_object players.now events.now change.now spot right.now) }
+{
+    let replaces = lines_array(alloc, replaced(events, change))?;
+    let lines = events_array(alloc, players, coming(right, change))?;
+    let fields = vec![in alloc;
+        ("at", name_tree(at_name(spot))),
+        ("line", count_tree(line_in(spot))),
+        ("slip", name_tree(slip_name(&change.slip))),
+        ("replaces", replaces),
+        ("lines", lines),
+    ]?;
+    Ok(object(fields))
 }
 
-/// The line at the place of another repair.
-pub(crate) fn other_line(
+/// What a repair puts at its place.
+pub(crate) fn put_by(
     alloc: Global,
     players: &Players,
     repair: &Repair,
-) -> Result<Option<String>, AllocError> {
-    match repair.right.as_slice().get(repair.listed.change.place) {
-        Some(event) => Ok(Some(event_text(alloc, players, event)?)),
+) -> Result<Option<Tree>, AllocError>
+    ensures { IfOk result (λ tree. option_map view tree ≡ put_by players.now repair.now) }
+{
+    match item_at(repair.right.as_slice(), repair.listed.change.place) {
+        Some(event) => Ok(Some(event_tree(alloc, players, event)?)),
         None => Ok(None),
     }
 }
 
-/// The lines that the repairs on the same line as one have at its place.
-fn other_lines(
+/// What one of several repairs puts at its place.
+fn put_at(
+    alloc: Global,
+    players: &Players,
+    repairs: &[Repair],
+    index: usize,
+) -> Result<Option<Tree>, AllocError>
+    ensures { IfOk result (λ tree. option_map view tree ≡ put_at players.now repairs.now index) }
+{
+    match item_at(repairs, index) {
+        Some(repair) => put_by(alloc, players, repair),
+        None => Ok(None),
+    }
+}
+
+/// What some of several repairs put at their places.
+#[tactic(auto, using(std::proofs::lemmas::Grind::common_steps, json_trees::proofs::Lists::kept))]
+fn others_array(
     alloc: Global,
     players: &Players,
     repairs: &[Repair],
     others: &[usize],
-) -> Result<Vec<String>, AllocError> {
-    let mut lines = Vec::new(alloc);
+) -> Result<Tree, AllocError>
+    ensures { IfOk result (λ tree. view tree ≡ array_of (filter_map (put_at players.now repairs.now) others.now)) }
+{
+    let mut trees = Vec::new(alloc);
     for index in others {
-        if let Some(repair) = repairs.get(*index) {
-            if let Some(line) = other_line(alloc, players, repair)? {
-                lines.push(line)?;
-            }
-        }
+        push_if(&mut trees, put_at(alloc, players, repairs, *index)?)?;
     }
-    Ok(lines)
+    Ok(array(trees))
 }
 
 /// A repair, with those that share its line.
-pub(crate) fn repair_object(
+pub(crate) fn repair_tree(
     alloc: Global,
     players: &Players,
     events: &[Event],
     repairs: &[Repair],
     repair: &Repair,
-    told: &Told,
-) -> Result<RepairObject, AllocError> {
+    others: &[usize],
+) -> Result<Tree, AllocError>
+    ensures { IfOk result (λ tree. view tree ≡ repair_object players.now events.now repairs.now repair.now others.now) }
+{
     let change = &repair.listed.change;
     let spot = spot_of(events, change);
     let numbers = numbers_with(&change.slip, events.len());
-    Ok(RepairObject {
-        at: at_name(spot),
-        line: line_in(spot),
-        slip: slip_name(&change.slip),
-        replaces: replaced_lines(alloc, events, change)?,
-        lines: right_lines(alloc, players, change, repair.right.as_slice())?,
-        others: other_lines(alloc, players, repairs, told.others.as_slice())?,
-        weight: weight_of(&change.slip),
-        cost: repair.remains.cost(&change.slip),
-        evidence: evidence_object(alloc, &repair.remains, numbers)?,
-    })
-}
-
-/// A single repair of a record.
-///
-/// It fails only if memory runs out.
-pub fn single_object(
-    alloc: Global,
-    record: &Record,
-    repair: &Repair,
-) -> Result<RepairObject, AllocError> {
-    object_by_events(alloc, &record.players, record.events.as_slice(), repair)
+    let replaces = lines_array(alloc, replaced(events, change))?;
+    let lines = events_array(alloc, players, coming(repair.right.as_slice(), change))?;
+    let others = others_array(alloc, players, repairs, others)?;
+    let evidence = evidence_tree(alloc, &repair.remains, numbers)?;
+    let fields = vec![in alloc;
+        ("at", name_tree(at_name(spot))),
+        ("line", count_tree(line_in(spot))),
+        ("slip", name_tree(slip_name(&change.slip))),
+        ("replaces", replaces),
+        ("lines", lines),
+        ("others", others),
+        ("weight", size_tree(weight_of(&change.slip))),
+        ("cost", wide_tree(repair.remains.cost(&change.slip))),
+        ("evidence", evidence),
+    ]?;
+    Ok(object(fields))
 }
 
 /// A single repair of these events.
 ///
-/// It fails only if memory runs out.
-pub fn object_by_events(
+/// # Errors
+///
+/// Memory was refused.
+pub fn tree_by_events(
     alloc: Global,
     players: &Players,
     events: &[Event],
     repair: &Repair,
-) -> Result<RepairObject, AllocError> {
-    let told = Told {
-        first: 0,
-        others: Vec::new(alloc),
-    };
-    repair_object(alloc, players, events, &[], repair, &told)
+) -> Result<Tree, AllocError>
+    ensures { IfOk result (λ tree. view tree ≡ single_object players.now events.now repair.now) }
+{
+    repair_tree(alloc, players, events, &[], repair, &[])
 }
 
-/// A slip of the whole sheet that repairs a record, as a single repair: the lines of the sheet that it changes, and the right lines.
+/// A single repair of a record.
 ///
-/// It fails only if memory runs out.
-pub fn whole_object(
-    alloc: Global,
-    record: &Record,
-    repair: &SheetRepair,
-) -> Result<RepairObject, AllocError> {
-    let SheetLines {
-        line,
-        replaces,
-        lines,
-    } = sheet_lines(alloc, record, repair)?;
-    let numbers = 2 * repair.right.len() as u128;
-    Ok(RepairObject {
-        at: "on",
-        line,
-        slip: sheet_slip_name(&repair.slip),
-        replaces,
-        lines,
-        others: Vec::new(alloc),
-        weight: weight_of_sheet(&repair.slip),
-        cost: repair.cost,
-        evidence: evidence_object(alloc, &repair.alone.remains, numbers)?,
-    })
+/// # Errors
+///
+/// Memory was refused.
+pub fn single_tree(alloc: Global, game: &Record, repair: &Repair) -> Result<Tree, AllocError>
+    ensures { IfOk result (λ tree. view tree ≡ single_object game.now.players game.now.events repair.now) }
+{
+    tree_by_events(alloc, &game.players, game.events.as_slice(), repair)
 }

@@ -1,7 +1,7 @@
-//! The answer of `repair` as JSON, for programs: one object and an LF.
+//! The answer of `repair` as a tree, for programs.
 //!
-//! [`push_repair_answer`] takes the answer that `repair_answers` makes and gives bytes, as `answer_json` does for all other answers. It does not ask
-//! the engine or try changes.
+//! [`answer_tree`] takes the answer that `repair_answers` makes; its contract says that the tree is exactly the object that `specs/` defines for it.
+//! [`bad_tree`] does the same for a text that is not a record. Neither asks the engine or tries changes.
 #![tactic(auto)]
 
 mod answers;
@@ -13,6 +13,7 @@ mod pairs;
 mod sheets;
 mod slip_names;
 
-pub use answers::{push_no_game, push_repair_answer};
-pub use bad_records::push_bad_repairs;
-pub use changes::{RepairObject, object_by_events, single_object, whole_object};
+pub use answers::answer_tree;
+pub use bad_records::bad_tree;
+pub use changes::{single_tree, tree_by_events};
+pub use sheets::whole_tree;

@@ -1,114 +1,120 @@
-//! A pair of changes as an object.
+//! A pair of changes as a tree.
+ghost use Rattle.std.specs.Prelude.{◌≡◌, ◌∷◌, [], IfOk, option_map};
+ghost use Rattle.std.specs.List.{filter_map};
+ghost use Rattle.json_trees.specs.Trees.{view};
+ghost use Rattle.json_trees.specs.Values.{array_of};
+ghost use Rattle.repair_json.specs.Pairs.{first_object, pair_object, second_at, second_object};
 
-use crate::changes::{at_name, line_in, other_line, replaced_lines, right_lines};
-use crate::evidence::{EvidenceObject, evidence_object};
-use crate::slip_names::slip_name;
-use gcg_read::{Event, Players, Record};
-use record_changes::{Change, Spot, numbers_with_both, second_spot, spot_of, weight_of};
-use repair_answers::Told;
-use repair_pairs::{Head, Pair, Pairs};
-use serde::Serialize;
+use crate::changes::{change_tree, put_by};
+use crate::evidence::evidence_tree;
+use answer_json::item_at;
+use gcg_read::{Players, Record};
+use json_trees::{Tree, array, object, push_if, wide_tree};
+use record_changes::{numbers_with_both, spot_of, weight_of};
+use repair_chains::later_spot;
+use repair_pairs::{Head, Pair};
 use std::alloc::{AllocError, Global};
 
-/// One of several changes: where it is, the lines of the sheet that it replaces, and the right lines.
-#[derive(Drop, Serialize)]
-pub(crate) struct ChangeObject {
-    at: &'static str,
-    line: u32,
-    slip: &'static str,
-    replaces: Vec<u32>,
-    lines: Vec<String>,
-}
-
-/// A pair of changes, and the evidence.
-#[derive(Drop, Serialize)]
-pub(crate) struct PairObject {
-    changes: Vec<ChangeObject>,
-    others: Vec<String>,
-    weight: usize,
-    cost: u128,
-    evidence: EvidenceObject,
-}
-
-/// One of several changes, by the events that it changes.
-pub(crate) fn change_object(
-    alloc: Global,
-    players: &Players,
-    events: &[Event],
-    change: &Change,
-    spot: Spot,
-    right: &[Event],
-) -> Result<ChangeObject, AllocError> {
-    Ok(ChangeObject {
-        at: at_name(spot),
-        line: line_in(spot),
-        slip: slip_name(&change.slip),
-        replaces: replaced_lines(alloc, events, change)?,
-        lines: right_lines(alloc, players, change, right)?,
-    })
-}
-
-/// Both changes of a pair.
-fn change_objects(
-    alloc: Global,
-    record: &Record,
-    head: &Head,
-    pair: &Pair,
-) -> Result<Vec<ChangeObject>, AllocError> {
-    let events = record.events.as_slice();
-    let made = head.made.as_slice();
-    let first = &head.first.change;
-    let second = &pair.then.listed.change;
-    let right = pair.then.right.as_slice();
-    let players = &record.players;
-    let mut objects = Vec::new(alloc);
-    objects.push(change_object(alloc, players, events, first, spot_of(events, first), made)?)?;
-    objects.push(change_object(
+/// The first change, by the events of the record.
+fn first_tree(alloc: Global, game: &Record, head: &Head) -> Result<Tree, AllocError>
+    ensures { IfOk result (λ tree. view tree ≡ first_object game.now head.now) }
+{
+    let events = game.events.as_slice();
+    let change = &head.first.change;
+    let spot = spot_of(events, change);
+    change_tree(
         alloc,
-        players,
-        made,
-        second,
-        second_spot(made, second),
-        right,
-    )?)?;
-    Ok(objects)
+        &game.players,
+        events,
+        change,
+        spot,
+        head.made.as_slice(),
+    )
 }
 
-/// The lines that the other pairs have at the place of the second change.
-fn other_seconds(
+/// The second change, by the events that the first one makes.
+fn second_tree(alloc: Global, game: &Record, head: &Head, pair: &Pair) -> Result<Tree, AllocError>
+    ensures { IfOk result (λ tree. view tree ≡ second_object game.now head.now pair.now) }
+{
+    let made = head.made.as_slice();
+    let change = &pair.then.listed.change;
+    let spot = later_spot(made, change);
+    change_tree(
+        alloc,
+        &game.players,
+        made,
+        change,
+        spot,
+        pair.then.right.as_slice(),
+    )
+}
+
+/// Both changes.
+fn both_changes(alloc: Global, game: &Record, head: &Head, pair: &Pair) -> Result<Tree, AllocError>
+    ensures { IfOk result (λ tree. view tree ≡ array_of (first_object game.now head.now ∷ second_object game.now head.now pair.now ∷ [])) }
+{
+    let first = first_tree(alloc, game, head)?;
+    let second = second_tree(alloc, game, head, pair)?;
+    let trees = vec![in alloc; first, second]?;
+    Ok(array(trees))
+}
+
+/// What the second change of one of several pairs puts at its place.
+fn second_at(
     alloc: Global,
     players: &Players,
-    pairs: &Pairs,
-    others: &[usize],
-) -> Result<Vec<String>, AllocError> {
-    let mut lines = Vec::new(alloc);
-    for index in others {
-        if let Some(pair) = pairs.told.as_slice().get(*index) {
-            if let Some(line) = other_line(alloc, players, &pair.then)? {
-                lines.push(line)?;
-            }
-        }
+    pairs: &[Pair],
+    index: usize,
+) -> Result<Option<Tree>, AllocError>
+    ensures { IfOk result (λ tree. option_map view tree ≡ second_at players.now pairs.now index) }
+{
+    match item_at(pairs, index) {
+        Some(pair) => put_by(alloc, players, &pair.then),
+        None => Ok(None),
     }
-    Ok(lines)
+}
+
+/// What the second changes of some of several pairs put at their places.
+#[tactic(auto, using(std::proofs::lemmas::Grind::common_steps, json_trees::proofs::Lists::kept))]
+fn others_array(
+    alloc: Global,
+    players: &Players,
+    pairs: &[Pair],
+    others: &[usize],
+) -> Result<Tree, AllocError>
+    ensures { IfOk result (λ tree. view tree ≡ array_of (filter_map (second_at players.now pairs.now) others.now)) }
+{
+    let mut trees = Vec::new(alloc);
+    for index in others {
+        push_if(&mut trees, second_at(alloc, players, pairs, *index)?)?;
+    }
+    Ok(array(trees))
 }
 
 /// A pair of changes, with those that share its line.
-pub(crate) fn pair_object(
+pub(crate) fn pair_tree(
     alloc: Global,
-    record: &Record,
-    pairs: &Pairs,
+    game: &Record,
+    pairs: &[Pair],
     head: &Head,
     pair: &Pair,
-    told: &Told,
-) -> Result<PairObject, AllocError> {
+    others: &[usize],
+) -> Result<Tree, AllocError>
+    ensures { IfOk result (λ tree. view tree ≡ pair_object game.now pairs.now head.now pair.now others.now) }
+{
     let first = &head.first.change.slip;
     let second = &pair.then.listed.change.slip;
-    let numbers = numbers_with_both(first, second, record.events.len());
-    Ok(PairObject {
-        changes: change_objects(alloc, record, head, pair)?,
-        others: other_seconds(alloc, &record.players, pairs, told.others.as_slice())?,
-        weight: weight_of(first).saturating_add(weight_of(second)),
-        cost: pair.cost,
-        evidence: evidence_object(alloc, &pair.then.remains, numbers)?,
-    })
+    let numbers = numbers_with_both(first, second, game.events.len());
+    let weight = weight_of(first) as u128 + weight_of(second) as u128;
+    let changes = both_changes(alloc, game, head, pair)?;
+    let others = others_array(alloc, &game.players, pairs, others)?;
+    let evidence = evidence_tree(alloc, &pair.then.remains, numbers)?;
+    let fields = vec![in alloc;
+        ("changes", changes),
+        ("others", others),
+        ("weight", wide_tree(weight)),
+        ("cost", wide_tree(pair.cost)),
+        ("evidence", evidence),
+    ]?;
+    Ok(object(fields))
 }

@@ -1,4 +1,6 @@
 //! The names of slips.
+ghost use Rattle.std.specs.Prelude.{◌≡◌};
+ghost use Rattle.repair_json.specs.Slips.{code_name, exchange_name, last_rack_name, misread_name, missing_name, off_name, position_name, rack_name, running_name, sheet_slip_name, slip_name, spelling_name, tile_name};
 
 use record_changes::{
     CodeSlip, Misread, MissingLine, PositionSlip, Slip, SpellingSlip, TileSlip, TilesOf,
@@ -6,7 +8,9 @@ use record_changes::{
 use sheet_slips::{RunningSlip, SheetSlip, Way};
 
 /// The name of a slip of a position.
-fn position_name(slip: &PositionSlip) -> &'static str {
+fn position_name(slip: &PositionSlip) -> &'static str
+    ensures { result.now ≡ position_name slip.now }
+{
     match slip {
         PositionSlip::OtherDirection => "other direction",
         PositionSlip::OneOff(_) => "one square off",
@@ -16,7 +20,9 @@ fn position_name(slip: &PositionSlip) -> &'static str {
 }
 
 /// The name of a slip of a text.
-fn spelling_name(slip: &SpellingSlip) -> &'static str {
+fn spelling_name(slip: &SpellingSlip) -> &'static str
+    ensures { result.now ≡ spelling_name slip.now }
+{
     match slip {
         SpellingSlip::OtherTile { .. } => "letter or blank",
         SpellingSlip::Dot { .. } => "letter in place of dot",
@@ -31,7 +37,9 @@ fn spelling_name(slip: &SpellingSlip) -> &'static str {
 }
 
 /// The name of a slip of the tiles of a rack.
-fn rack_name(slip: &TileSlip) -> &'static str {
+fn rack_name(slip: &TileSlip) -> &'static str
+    ensures { result.now ≡ rack_name slip.now }
+{
     match slip {
         TileSlip::Other { .. } => "other tile on rack",
         TileSlip::Extra { .. } => "tile too many on rack",
@@ -40,7 +48,9 @@ fn rack_name(slip: &TileSlip) -> &'static str {
 }
 
 /// The name of a slip of tiles that are exchanged.
-fn exchange_name(slip: &TileSlip) -> &'static str {
+fn exchange_name(slip: &TileSlip) -> &'static str
+    ensures { result.now ≡ exchange_name slip.now }
+{
     match slip {
         TileSlip::Other { .. } => "other tile exchanged",
         TileSlip::Extra { .. } => "tile too many exchanged",
@@ -49,7 +59,9 @@ fn exchange_name(slip: &TileSlip) -> &'static str {
 }
 
 /// The name of a slip of a last rack.
-fn last_rack_name(slip: &TileSlip) -> &'static str {
+fn last_rack_name(slip: &TileSlip) -> &'static str
+    ensures { result.now ≡ last_rack_name slip.now }
+{
     match slip {
         TileSlip::Other { .. } => "other tile on last rack",
         TileSlip::Extra { .. } => "tile too many on last rack",
@@ -58,7 +70,9 @@ fn last_rack_name(slip: &TileSlip) -> &'static str {
 }
 
 /// The name of a slip of tiles.
-fn tile_name(of: TilesOf, slip: &TileSlip) -> &'static str {
+fn tile_name(of: TilesOf, slip: &TileSlip) -> &'static str
+    ensures { result.now ≡ tile_name of slip.now }
+{
     match of {
         TilesOf::Rack => rack_name(slip),
         TilesOf::Exchange => exchange_name(slip),
@@ -67,7 +81,9 @@ fn tile_name(of: TilesOf, slip: &TileSlip) -> &'static str {
 }
 
 /// The name of a tile that is misread twice.
-fn misread_name(slip: &Misread) -> &'static str {
+fn misread_name(slip: &Misread) -> &'static str
+    ensures { result.now ≡ misread_name slip.now }
+{
     match slip {
         Misread::Played { .. } => "other tile on rack and in word",
         Misread::Exchanged { .. } => "other tile on rack and exchanged",
@@ -75,7 +91,9 @@ fn misread_name(slip: &Misread) -> &'static str {
 }
 
 /// The name of a slip of a code.
-fn code_name(slip: &CodeSlip) -> &'static str {
+fn code_name(slip: &CodeSlip) -> &'static str
+    ensures { result.now ≡ code_name slip.now }
+{
     match slip {
         CodeSlip::Pass => "pass",
         CodeSlip::Exchange(_) => "exchange",
@@ -84,7 +102,9 @@ fn code_name(slip: &CodeSlip) -> &'static str {
 }
 
 /// The name of a line that is missing.
-fn missing_name(line: &MissingLine) -> &'static str {
+fn missing_name(line: &MissingLine) -> &'static str
+    ensures { result.now ≡ missing_name line.now }
+{
     match line {
         MissingLine::Play { .. } => "play missing",
         MissingLine::Pass(_) => "pass missing",
@@ -97,7 +117,9 @@ fn missing_name(line: &MissingLine) -> &'static str {
 }
 
 /// The name of a slip.
-pub(crate) fn slip_name(slip: &Slip) -> &'static str {
+pub(crate) fn slip_name(slip: &Slip) -> &'static str
+    ensures { result.now ≡ slip_name slip.now }
+{
     match slip {
         Slip::Position(slip) => position_name(slip),
         Slip::Spelling(slip) => spelling_name(slip),
@@ -120,7 +142,9 @@ pub(crate) fn slip_name(slip: &Slip) -> &'static str {
 }
 
 /// The name of places that are one square off, if the right ones are there, seen from them.
-fn off_name(way: Way) -> &'static str {
+fn off_name(way: Way) -> &'static str
+    ensures { result.now ≡ off_name way }
+{
     match way {
         Way::Left => "places one column too far right",
         Way::Right => "places one column too far left",
@@ -130,7 +154,9 @@ fn off_name(way: Way) -> &'static str {
 }
 
 /// The name of a slip that runs through the sheet.
-fn running_name(slip: RunningSlip) -> &'static str {
+fn running_name(slip: RunningSlip) -> &'static str
+    ensures { result.now ≡ running_name slip }
+{
     match slip {
         RunningSlip::Interchanged => "rows and columns interchanged",
         RunningSlip::OneOff(way) => off_name(way),
@@ -141,7 +167,9 @@ fn running_name(slip: RunningSlip) -> &'static str {
 }
 
 /// The name of a slip of the whole sheet.
-pub(crate) fn sheet_slip_name(slip: &SheetSlip) -> &'static str {
+pub(crate) fn sheet_slip_name(slip: &SheetSlip) -> &'static str
+    ensures { result.now ≡ sheet_slip_name slip.now }
+{
     match slip {
         SheetSlip::Unread(_) => "line not read",
         SheetSlip::ExtraMark { .. } => "> too many",

@@ -1,8 +1,7 @@
 //! Several changes that repair a record, one after the other.
 
 use gcg_read::{Event, Record};
-use record_changes::second_spot;
-use repair_chains::Chain;
+use repair_chains::{Chain, later_spot};
 use repair_words::{push_change, push_change_at, push_evidence};
 use sentence_parts::{Part, say};
 use std::alloc::AllocError;
@@ -38,7 +37,7 @@ fn push_step(
         before,
         change,
         made,
-        second_spot(before, change),
+        later_spot(before, change),
     )
 }
 
@@ -56,7 +55,7 @@ fn push_last(text: &mut Vec<u8>, record: &Record, chain: &Chain) -> Result<(), A
     let before = made_by(chain, chain.steps.len().saturating_sub(1));
     let change = &chain.last.listed.change;
     let right = chain.last.right.as_slice();
-    let spot = second_spot(before, change);
+    let spot = later_spot(before, change);
     push_change_at(text, &record.players, before, change, right, spot)?;
     text.extend_from_slice(b"\n")?;
     let numbers = chain.numbers(record.events.len());

@@ -12,6 +12,6 @@ mod likely;
 mod lines;
 mod sheets;
 
-pub use choices::{push_choice, says_each_line};
+pub use choices::push_choice;
 pub use likely::{push_likely, push_likely_change, push_likely_numbers};
 pub use lines::push_repairs;

@@ -7,9 +7,10 @@ use crate::sheets::push_sheet;
 use decimal_text::push_number;
 use game_case::{Case, case_line};
 use gcg_read::Record;
-use record_changes::{numbers_with, numbers_with_both, second_spot};
+use record_changes::{numbers_with, numbers_with_both};
 use record_repairs::Repair;
 use repair_answers::{Faulty, Item, NumbersAlone, RepairAnswer, Told, WORDS_OF_SLIPS, items_of};
+use repair_chains::later_spot;
 use repair_pairs::{Head, Pair, Pairs};
 use repair_words::{push_change, push_change_at, push_change_of, push_evidence};
 use sentence_parts::{Part, say};
@@ -66,7 +67,7 @@ fn push_both(
         made,
         second,
         pair.then.right.as_slice(),
-        second_spot(made, second),
+        later_spot(made, second),
     )
 }
 

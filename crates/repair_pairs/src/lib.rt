@@ -13,10 +13,8 @@ mod listed;
 mod made;
 mod news;
 mod ordering;
-mod standing;
 
 pub use finding::pairs;
 pub use first_steps::first_step;
 pub use found::{Head, Pair, Pairs};
 pub use news::is_of_sheet;
-pub use standing::game_before;

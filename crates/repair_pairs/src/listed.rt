@@ -3,13 +3,12 @@ ghost use Rattle.std.specs.Prelude.{[], IfOk, IfSome};
 ghost use Rattle.game_rows.specs.Walks.{IsWalkOf};
 ghost use Rattle.record_repairs.specs.Repairs.{IsListed};
 
-use crate::standing::game_before;
 use change_lists::{law_of_slips, slips_at};
 use game_rows::Walk;
 use gcg_read::Event;
 use lex_list::WordList;
 use record_changes::Change;
-use record_repairs::Listed;
+use record_repairs::{Listed, game_before};
 use ref_tiles::Rules;
 use std::alloc::{AllocError, Global};
 

@@ -5,3 +5,4 @@ pub mod Ends
 pub mod Names
 pub mod Running
 pub mod Sheets
+pub mod Reading

@@ -31,7 +31,7 @@ fn text_with_line(
 /// # Errors
 ///
 /// Memory ran out.
-pub fn sheet_without(
+pub(crate) fn sheet_without(
     alloc: Global,
     text: &[u8],
     players: &Players,

@@ -39,7 +39,7 @@ pub fn can_be_written(players: &Players, right: &[Event]) -> bool
 /// # Errors
 ///
 /// Memory ran out.
-pub fn repaired_text(
+pub(crate) fn repaired_text(
     alloc: Global,
     text: &[u8],
     players: &Players,

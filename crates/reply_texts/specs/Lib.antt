@@ -1,3 +1,5 @@
 pub mod Rulings
 pub mod Kept
 pub mod Words
+pub mod Bodies
+pub mod Objects

@@ -1,15 +1,21 @@
 //! What is written of an audit.
-ghost use Rattle.std.specs.Prelude.{◌≡◌, ◌&&◌, is_some, IfOk, IfSome};
+ghost use Rattle.std.specs.Prelude.{◌≡◌, ◌&&◌, is_some, Some, IfOk, IfSome};
 ghost use Rattle.audit_lines.specs.Standing.{is_written};
+ghost use Rattle.sheet_json.specs.Audits.{audit_object};
+ghost use Rattle.reply_texts.specs.Bodies.{object_in, text_in};
 ghost use Rattle.reply_texts.specs.Kept.{has_event, is_corrected, IsCorrectedText, IsCorrectedOf};
+ghost use Rattle.reply_texts.specs.Objects.{audited_of, IsAuditedOf, IsAuditedText};
 
-use crate::cases::NO_GAME;
+use crate::bodies::Body;
+use crate::cases::{NO_GAME, is_with_event};
+use answer_json::decision_tree;
 use audit_lines::{AuditAnswer, corrected_text, is_corrected, is_written, push_audit};
-use game_case::Finding;
 use repair_answers::SheetAmount;
 use repair_words::push_amount;
 use serve_answers::{AuditedSheet, Printed};
+use sheet_json::audit_tree;
 use std::alloc::{AllocError, Global};
+use unread_lines::UnreadLine;
 
 /// Why the corrected record is not written although it stands.
 const NOT_CORRECTED: &[u8] =
@@ -62,19 +68,12 @@ pub fn corrected_of(
     Ok(None)
 }
 
-/// Whether a record with this finding has an event.
-fn has_event(finding: &Finding) -> bool
-    ensures { result ≡ has_event finding.now }
-{
-    !matches!(finding, Finding::NoGame)
-}
-
 /// An audit in words: each wrong number, what would explain them, the verdict on the corrected record, and who is ahead.
 fn answer_words(alloc: Global, answer: &AuditAnswer, corrected: bool) -> Result<Printed, AllocError>
     ensures asked { IfOk result (λ printed. is_some printed.kept ≡ (has_event answer.now.audit.entry.finding && (corrected && is_written answer.now))) }
     ensures text { IfOk result (λ printed. IfSome printed.kept (λ text. IsCorrectedText answer.now text.items)) }
 {
-    if !has_event(&answer.audit.entry.finding) {
+    if !is_with_event(&answer.audit.entry.finding) {
         return Printed::of_bytes(alloc, NO_GAME);
     }
     let report = lines_of(alloc, answer, corrected)?;
@@ -90,5 +89,33 @@ pub fn audit_words(alloc: Global, sheet: &AuditedSheet) -> Result<Printed, Alloc
     match &sheet.found {
         Ok(answer) => answer_words(alloc, answer, sheet.corrected),
         Err(decision) => Printed::of_bytes(alloc, decision.report.as_slice()),
+    }
+}
+
+/// An audit for a program, with its corrected record if that is requested and is to be written.
+fn answer_body(
+    alloc: Global,
+    answer: &AuditAnswer,
+    corrected: bool,
+    unread: &[UnreadLine],
+) -> Result<Body, AllocError>
+    ensures has_object { IfOk result (λ body. object_in body ≡ Some (audit_object answer.now unread.now)) }
+    ensures has_text { IfOk result (λ body. IsAuditedText answer.now corrected (text_in body)) }
+{
+    let object = audit_tree(alloc, answer, unread)?;
+    match corrected_of(alloc, answer, corrected)? {
+        Some(text) => Ok(Body::Both(object, text)),
+        None => Ok(Body::Object(object)),
+    }
+}
+
+/// An audit for a program, or that the text is not a record.
+pub fn audited_body(alloc: Global, sheet: &AuditedSheet) -> Result<Body, AllocError>
+    ensures has_object { IfOk result (λ body. object_in body ≡ Some (audited_of sheet.now.found sheet.now.unread.items)) }
+    ensures has_text { IfOk result (λ body. IsAuditedOf sheet.now.found sheet.now.corrected (text_in body)) }
+{
+    match &sheet.found {
+        Ok(answer) => answer_body(alloc, answer, sheet.corrected, sheet.unread.as_slice()),
+        Err(decision) => Ok(Body::Object(decision_tree(alloc, decision)?)),
     }
 }

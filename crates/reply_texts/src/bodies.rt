@@ -1,22 +1,41 @@
 //! What an answer to a program has.
+ghost use Rattle.std.specs.Prelude.{◌≡◌, option_map};
+ghost use Rattle.std.specs.Option.{option_copied};
+ghost use Rattle.json_trees.specs.Trees.{view};
+
+use json_trees::Tree;
 
 /// What an answer to a program has: an object, a text, or both.
 #[derive(Drop)]
 pub enum Body {
-    /// A JSON object, which may end in an LF.
-    Object(Vec<u8>),
+    /// A JSON object.
+    Object(Tree),
     /// A text.
     Text(Vec<u8>),
     /// An object, and a text.
-    Both(Vec<u8>, Vec<u8>),
+    Both(Tree, Vec<u8>),
 }
 
 impl Body {
-    /// An object, with a text if there is one.
-    pub fn with_text(object: Vec<u8>, text: Option<Vec<u8>>) -> Body {
-        match text {
-            Some(text) => Body::Both(object, text),
-            None => Body::Object(object),
+    ghost use Rattle.reply_texts.specs.Bodies.{object_in, text_in};
+
+    /// Its object, if it has one.
+    pub fn object(&self) -> Option<&Tree>
+        ensures { option_map view (option_copied result) ≡ object_in self.now }
+    {
+        match self {
+            Body::Object(tree) | Body::Both(tree, _) => Some(tree),
+            Body::Text(_) => None,
+        }
+    }
+
+    /// Its text, if it has one.
+    pub fn text(&self) -> Option<&[u8]>
+        ensures { option_copied result ≡ text_in self.now }
+    {
+        match self {
+            Body::Text(text) | Body::Both(_, text) => Some(text.as_slice()),
+            Body::Object(_) => None,
         }
     }
 }

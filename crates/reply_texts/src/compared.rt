@@ -1,17 +1,21 @@
 //! What is found of two sheets, in words and as an object.
-ghost use Rattle.std.specs.Prelude.{◌≡◌, ◌&&◌, is_some, None, IfOk, IfSome};
+ghost use Rattle.std.specs.Prelude.{◌≡◌, ◌&&◌, is_some, Some, None, IfOk, IfSome};
+ghost use Rattle.json_trees.specs.Trees.{view};
+ghost use Rattle.comparison_json.specs.Answers.{comparison_object};
+ghost use Rattle.reply_texts.specs.Bodies.{object_in, text_in};
 ghost use Rattle.reply_texts.specs.Kept.{has_merged, is_merged, IsNormalForm, IsMergedText};
+ghost use Rattle.reply_texts.specs.Objects.{bad_sheet_of, compared_of, IsComparedText};
 
 use crate::bodies::Body;
 use crate::cases::NO_GAME;
 use crate::encodings::in_utf8;
-use answer_json::push_bad_record;
+use answer_json::{bad_record_tree, no_game_tree};
 use call_stages::bad_record_line;
 use comparison_answers::ComparisonAnswer;
-use comparison_json::push_comparison_answer;
+use comparison_json::comparison_tree;
 use comparison_lines::{push_choice, push_comparison};
 use gcg_write::write;
-use repair_json::push_no_game;
+use json_trees::Tree;
 use serve_answers::{BadSheet, BothCompared, Printed, SheetsFound};
 use std::alloc::{AllocError, Global};
 
@@ -83,29 +87,38 @@ pub fn compared_words(alloc: Global, found: &SheetsFound) -> Result<Printed, All
     }
 }
 
-/// Why there is nothing to compare on a sheet, as an object.
-fn bad_object(alloc: Global, bad: &BadSheet) -> Result<Vec<u8>, AllocError> {
-    let mut text = Vec::new(alloc);
+/// Why there is nothing to compare on a sheet, as a tree.
+fn bad_tree(alloc: Global, bad: &BadSheet) -> Result<Tree, AllocError>
+    ensures { IfOk result (λ tree. view tree ≡ bad_sheet_of bad.now) }
+{
     match bad {
-        BadSheet::NoRecord(fault) => push_bad_record(alloc, &mut text, *fault)?,
-        BadSheet::NoEvent(unread) => push_no_game(alloc, &mut text, unread.as_slice())?,
+        BadSheet::NoRecord(fault) => bad_record_tree(alloc, *fault),
+        BadSheet::NoEvent(unread) => no_game_tree(alloc, unread.as_slice()),
     }
-    Ok(text)
 }
 
-/// What is found of two sheets, as an object.
-fn both_object(alloc: Global, both: &BothCompared) -> Result<Body, AllocError> {
-    let mut text = Vec::new(alloc);
-    push_comparison_answer(alloc, &mut text, &both.answer)?;
-    Ok(Body::with_text(text, merged_of(alloc, both)?))
+/// Both sheets, compared, for a program, with the merged record if it is requested and there is one.
+fn both_body(alloc: Global, both: &BothCompared) -> Result<Body, AllocError>
+    ensures has_object { IfOk result (λ body. object_in body ≡ Some (comparison_object both.now.answer)) }
+    ensures asked { IfOk result (λ body. is_some (text_in body) ≡ (both.now.merged && has_merged both.now.answer.merged)) }
+    ensures has_text { IfOk result (λ body. IfSome (text_in body) (IsNormalForm both.now.answer.merged)) }
+{
+    let object = comparison_tree(alloc, &both.answer)?;
+    match merged_of(alloc, both)? {
+        Some(text) => Ok(Body::Both(object, text)),
+        None => Ok(Body::Object(object)),
+    }
 }
 
 /// What is found of two sheets, for a program.
-pub fn compared_body(alloc: Global, found: &SheetsFound) -> Result<Body, AllocError> {
+pub fn compared_body(alloc: Global, found: &SheetsFound) -> Result<Body, AllocError>
+    ensures has_object { IfOk result (λ body. object_in body ≡ Some (compared_of found.now)) }
+    ensures has_text { IfOk result (λ body. IsComparedText found.now (text_in body)) }
+{
     match found {
-        SheetsFound::Both(both) => both_object(alloc, both),
+        SheetsFound::Both(both) => both_body(alloc, both),
         SheetsFound::FirstBad(bad) | SheetsFound::SecondBad(bad) => {
-            Ok(Body::Object(bad_object(alloc, bad)?))
+            Ok(Body::Object(bad_tree(alloc, bad)?))
         }
     }
 }

@@ -1,27 +1,27 @@
 //! What is written of a draft.
+ghost use Rattle.std.specs.Prelude.{◌≡◌, Some, IfOk};
+ghost use Rattle.json_trees.specs.Trees.{view};
+ghost use Rattle.draft_json.specs.Fills.{fill_object};
+ghost use Rattle.reply_texts.specs.Bodies.{bytes_of, object_in, text_in};
+ghost use Rattle.reply_texts.specs.Objects.{filled_of, filled_text, next_of};
 
 use crate::audits::{amount_line, push_why_not};
 use crate::bodies::Body;
 use crate::cases::NO_GAME;
 use draft_answers::{DraftFault, DraftNext, FilledDraft};
-use draft_json::{push_bad_draft, push_fill_answer, push_next_answer};
+use draft_json::{bad_draft_tree, fill_tree, next_tree};
 use draft_lines::{push_draft_fault, push_fill, push_next};
 use game_case::Finding;
+use json_trees::Tree;
 use serve_answers::{FilledSheet, Printed};
 use std::alloc::{AllocError, Global};
+use unread_lines::UnreadLine;
 
 /// The first fault of a draft, in words.
 fn fault_words(alloc: Global, fault: &DraftFault) -> Result<Printed, AllocError> {
     let mut told = Vec::new(alloc);
     push_draft_fault(alloc, &mut told, fault)?;
     Ok(Printed::report(told))
-}
-
-/// The same as an object.
-fn fault_object(alloc: Global, fault: &DraftFault) -> Result<Vec<u8>, AllocError> {
-    let mut text = Vec::new(alloc);
-    push_bad_draft(alloc, &mut text, fault)?;
-    Ok(text)
 }
 
 /// How many numbers were put into a draft, and the audit of the sheet that it makes; and why the record is not written, if it stands but is not.
@@ -55,15 +55,34 @@ pub fn filled_words(alloc: Global, sheet: &FilledSheet) -> Result<Printed, Alloc
     }
 }
 
-/// The same as an object.
-pub fn filled_body(alloc: Global, sheet: &FilledSheet) -> Result<Body, AllocError> {
-    match &sheet.found {
-        Err(fault) => Ok(Body::Object(fault_object(alloc, fault)?)),
-        Ok(draft) => {
-            let mut text = Vec::new(alloc);
-            push_fill_answer(alloc, &mut text, draft, sheet.unread.as_slice())?;
-            Ok(Body::with_text(text, text_of(alloc, &sheet.kept)?))
+/// A draft that is filled, for a program, with the text of the record that it makes, if there is one.
+fn draft_body(
+    alloc: Global,
+    draft: &FilledDraft,
+    kept: &Option<Vec<u8>>,
+    unread: &[UnreadLine],
+) -> Result<Body, AllocError>
+    ensures has_object { IfOk result (λ body. object_in body ≡ Some (fill_object draft.now unread.now)) }
+    ensures has_text { IfOk result (λ body. text_in body ≡ bytes_of kept.now) }
+{
+    let object = fill_tree(alloc, draft, unread)?;
+    match kept {
+        Some(text) => {
+            let text = Vec::from_slice(alloc, text.as_slice())?;
+            Ok(Body::Both(object, text))
         }
+        None => Ok(Body::Object(object)),
+    }
+}
+
+/// A draft that is filled, for a program, with the record that it makes; or its first fault.
+pub fn filled_body(alloc: Global, sheet: &FilledSheet) -> Result<Body, AllocError>
+    ensures has_object { IfOk result (λ body. object_in body ≡ Some (filled_of sheet.now.found sheet.now.unread.items)) }
+    ensures has_text { IfOk result (λ body. text_in body ≡ filled_text sheet.now.found sheet.now.kept) }
+{
+    match &sheet.found {
+        Ok(draft) => draft_body(alloc, draft, &sheet.kept, sheet.unread.as_slice()),
+        Err(fault) => Ok(Body::Object(bad_draft_tree(alloc, fault)?)),
     }
 }
 
@@ -82,17 +101,12 @@ pub fn next_words(
     }
 }
 
-/// The same as an object.
-pub fn next_object(
-    alloc: Global,
-    found: &Result<DraftNext, DraftFault>,
-) -> Result<Vec<u8>, AllocError> {
+/// What the next line of a draft is about, as a tree; or the first fault of the draft.
+pub fn next_of(alloc: Global, found: &Result<DraftNext, DraftFault>) -> Result<Tree, AllocError>
+    ensures { IfOk result (λ tree. view tree ≡ next_of found.now) }
+{
     match found {
-        Err(fault) => fault_object(alloc, fault),
-        Ok(draft) => {
-            let mut text = Vec::new(alloc);
-            push_next_answer(alloc, &mut text, draft)?;
-            Ok(text)
-        }
+        Ok(draft) => next_tree(alloc, draft),
+        Err(fault) => bad_draft_tree(alloc, fault),
     }
 }

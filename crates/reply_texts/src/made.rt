@@ -1,13 +1,22 @@
 //! The texts that are made of a case: its page, and its sheet with notes.
+ghost use Rattle.std.specs.Prelude.{◌≡◌, is_some, IfOk};
+ghost use Rattle.std.specs.Option.{option_copied};
+ghost use Rattle.json_trees.specs.Trees.{view};
+ghost use Rattle.unread_lines.specs.Lines.{unread_of};
+ghost use Rattle.case_objects.specs.Cases.{case_object};
+ghost use Rattle.reply_texts.specs.Bodies.{object_in, text_in};
+ghost use Rattle.reply_texts.specs.Objects.{annotated_object, has_sheet, paged_object, told_of, IsAnnotatedText};
 
 use crate::bodies::Body;
 use crate::cases::{NO_GAME, has_event, has_no_event};
 use annotations::{AnnotatedSheet, annotated_text};
-use case_objects::case_text;
+use case_objects::case_tree;
 use explanations::Explanation;
 use game_case::{Case, case_line};
-use page_answers::PagedCase;
+use json_trees::Tree;
+use page_answers::{PageContents, PagedCase};
 use page_words::page_text;
+use repair_answers::Likely;
 use serve_answers::Printed;
 use std::alloc::{AllocError, Global};
 use unread_lines::unread_lines;
@@ -53,36 +62,50 @@ pub fn annotated_words(alloc: Global, sheet: &AnnotatedSheet) -> Result<Printed,
 }
 
 /// What explains the verdict on a case with a page, if the text is a record.
-fn explanation_of(paged: &PagedCase) -> Option<&Explanation> {
-    match &paged.contents {
+fn told_of(contents: &Option<PageContents>) -> Option<&Explanation>
+    ensures { option_copied result ≡ told_of contents.now }
+{
+    match contents {
         Some(contents) => contents.explanation.as_ref(),
         None => None,
     }
 }
 
+/// What `explain` says of a case of which nothing is made.
+fn explained_tree(
+    alloc: Global,
+    case: &Case,
+    told: Option<&Explanation>,
+    likely: Option<&Likely>,
+) -> Result<Tree, AllocError>
+    ensures { IfOk result (λ tree. view tree
+        ≡ case_object case.now (option_copied told.entry) (option_copied likely.entry) (unread_of case.now.text.items)) }
+{
+    let unread = unread_lines(alloc, case.text.as_slice())?;
+    case_tree(alloc, case, told, likely, unread.as_slice())
+}
+
 /// The page of a case, for a program; if there is none, what `explain` says of the case.
-pub fn paged_body(alloc: Global, paged: &PagedCase) -> Result<Body, AllocError> {
+pub fn paged_body(alloc: Global, paged: &PagedCase) -> Result<Body, AllocError>
+    ensures has_object { IfOk result (λ body. object_in body ≡ paged_object paged.now) }
+    ensures has_text { IfOk result (λ body. is_some (text_in body) ≡ has_sheet paged.now.case.read) }
+{
     if has_event(&paged.case) {
         return Ok(Body::Text(page_of(alloc, paged)?));
     }
-    let likely = paged.likely.as_ref();
-    let unread = unread_lines(alloc, paged.case.text.as_slice())?;
-    let object = case_text(
-        alloc,
-        &paged.case,
-        explanation_of(paged),
-        likely,
-        unread.as_slice(),
-    )?;
+    let told = told_of(&paged.contents);
+    let object = explained_tree(alloc, &paged.case, told, paged.likely.as_ref())?;
     Ok(Body::Object(object))
 }
 
 /// A sheet with notes, for a program; if there is none, what `explain` says of the case.
-pub fn annotated_body(alloc: Global, sheet: &AnnotatedSheet) -> Result<Body, AllocError> {
+pub fn annotated_body(alloc: Global, sheet: &AnnotatedSheet) -> Result<Body, AllocError>
+    ensures has_object { IfOk result (λ body. object_in body ≡ annotated_object sheet.now) }
+    ensures has_text { IfOk result (λ body. IsAnnotatedText sheet.now (text_in body)) }
+{
     if has_event(&sheet.case) {
         return Ok(Body::Text(annotated_text(alloc, sheet)?));
     }
-    let unread = unread_lines(alloc, sheet.case.text.as_slice())?;
-    let object = case_text(alloc, &sheet.case, None, None, unread.as_slice())?;
+    let object = explained_tree(alloc, &sheet.case, None, None)?;
     Ok(Body::Object(object))
 }

@@ -1,33 +1,43 @@
 //! What repairs a case, in words and as an object.
-ghost use Rattle.std.specs.Prelude.{◌≡◌, true, None, IfOk, IfSome};
-ghost use Rattle.reply_texts.specs.Kept.{IsRepairedText};
+ghost use Rattle.std.specs.Prelude.{◌≡◌, Some, None, IfOk, MatchOption};
+ghost use Rattle.json_trees.specs.Trees.{view};
+ghost use Rattle.reply_texts.specs.Bodies.{object_in, text_in};
+ghost use Rattle.reply_texts.specs.Kept.{IsSheetKept, IsNoSheetKept};
+ghost use Rattle.reply_texts.specs.Objects.{repairs_in, repairs_of, IsRepairedOf};
 
-use crate::cases::{NO_GAME, has_no_event};
+use crate::bodies::Body;
+use crate::cases::{NO_GAME, has_no_event, is_with_event};
 use crate::encodings::in_utf8;
-use crate::sheets::sheet_to_keep;
+use answer_json::no_game_tree;
+use game_case::Entry;
+use json_trees::Tree;
+use kept_sheets::sheet_to_keep;
 use name_texts::Encoding;
-use repair_json::{push_bad_repairs, push_no_game, push_repair_answer};
+use repair_answers::RepairAnswer;
+use repair_json::{answer_tree, bad_tree};
 use repair_lines::{push_choice, push_repairs};
 use serve_answers::{Printed, RepairedCase};
 use std::alloc::{AllocError, Global};
+use unread_lines::UnreadLine;
 
 /// What is said of a repaired sheet of a record without an event.
 const NOTHING: &[u8] = b"not written: there is nothing to repair\n";
 
-/// What repairs the record of a case. If the record states its encoding, names in it are UTF-8.
-fn text_of(alloc: Global, repaired: &RepairedCase) -> Result<Vec<u8>, AllocError> {
+/// What repairs the record of a case, and whether the repaired sheet is kept. If the record states its encoding, names in it are UTF-8.
+fn text_of(alloc: Global, repaired: &RepairedCase, kept: bool) -> Result<Vec<u8>, AllocError> {
     let case = &repaired.case;
     let mut told = Vec::new(alloc);
     push_repairs(alloc, &mut told, case, &repaired.answer)?;
     if repaired.asked {
-        push_choice(&mut told, case, &repaired.answer)?;
+        push_choice(&mut told, case, &repaired.answer, kept)?;
     }
     in_utf8(alloc, told, Encoding::of(case.text.as_slice()))
 }
 
-/// The text of the repaired sheet, if it is requested and one repair is to be chosen.
-pub fn repaired_of(alloc: Global, repaired: &RepairedCase) -> Result<Option<Vec<u8>>, AllocError>
-    ensures { IfOk result (λ kept. IfSome kept (λ text. (repaired.now.asked ≡ true) × IsRepairedText repaired.now.case repaired.now.answer.faulty repaired.now.answer.of_line text.items)) }
+/// The text of the repaired sheet, if it is requested, one repair is to be chosen and the text reads as the record with it.
+#[tactic(auto, using(crate::proofs::Keeping::kept_of))]
+fn repaired_of(alloc: Global, repaired: &RepairedCase) -> Result<Option<Vec<u8>>, AllocError>
+    ensures { IfOk result (λ kept. MatchOption kept (IsNoSheetKept repaired.now) (λ text. IsSheetKept repaired.now text.items)) }
 {
     if repaired.asked {
         sheet_to_keep(alloc, &repaired.case, &repaired.answer)
@@ -48,35 +58,54 @@ fn no_game(alloc: Global, asked: bool) -> Result<Printed, AllocError>
 }
 
 /// What repairs the record of a case, in words.
+#[tactic(auto, using(crate::proofs::Keeping::none_kept))]
 pub fn repaired_words(alloc: Global, repaired: &RepairedCase) -> Result<Printed, AllocError>
-    ensures { IfOk result (λ printed. IfSome printed.kept (λ text. (repaired.now.asked ≡ true) × IsRepairedText repaired.now.case repaired.now.answer.faulty repaired.now.answer.of_line text.items)) }
+    ensures { IfOk result (λ printed. MatchOption printed.kept (IsNoSheetKept repaired.now) (λ text. IsSheetKept repaired.now text.items)) }
 {
     if has_no_event(&repaired.case) {
         return no_game(alloc, repaired.asked);
     }
-    let report = text_of(alloc, repaired)?;
     let kept = repaired_of(alloc, repaired)?;
+    let report = text_of(alloc, repaired, kept.is_some())?;
     Ok(Printed { report, kept })
 }
 
-/// What repairs the record of a case, as an object.
-pub fn repaired_object(alloc: Global, repaired: &RepairedCase) -> Result<Vec<u8>, AllocError> {
-    let RepairedCase {
-        case,
-        answer,
-        unread,
-        ..
-    } = repaired;
-    let mut text = Vec::new(alloc);
-    if has_no_event(case) {
-        push_no_game(alloc, &mut text, unread.as_slice())?;
-        return Ok(text);
+/// What repairs a record, or that it has no event.
+fn entry_tree(
+    alloc: Global,
+    entry: &Entry,
+    answer: &RepairAnswer,
+    unread: &[UnreadLine],
+) -> Result<Tree, AllocError>
+    ensures { IfOk result (λ tree. view tree ≡ repairs_in entry.now answer.now unread.now) }
+{
+    if is_with_event(&entry.finding) {
+        answer_tree(alloc, &entry.record, answer, unread)
+    } else {
+        no_game_tree(alloc, unread)
     }
-    match &case.read {
-        Ok(entry) => {
-            push_repair_answer(alloc, &mut text, &entry.record, answer, unread.as_slice())?;
-        }
-        Err(fault) => push_bad_repairs(alloc, &mut text, *fault, &answer.of_line)?,
+}
+
+/// What repairs the record of a case, or its text if that is not a record.
+fn repaired_tree(alloc: Global, repaired: &RepairedCase) -> Result<Tree, AllocError>
+    ensures { IfOk result (λ tree. view tree ≡ repairs_of repaired.now.case.read repaired.now.answer repaired.now.unread.items) }
+{
+    let answer = &repaired.answer;
+    match &repaired.case.read {
+        Ok(entry) => entry_tree(alloc, entry, answer, repaired.unread.as_slice()),
+        Err(fault) => bad_tree(alloc, *fault, &answer.of_line),
     }
-    Ok(text)
+}
+
+/// What repairs the record of a case, for a program, with the repaired sheet if that is kept.
+pub fn repaired_body(alloc: Global, repaired: &RepairedCase) -> Result<Body, AllocError>
+    ensures has_object { IfOk result (λ body. object_in body
+        ≡ Some (repairs_of repaired.now.case.read repaired.now.answer repaired.now.unread.items)) }
+    ensures has_text { IfOk result (λ body. IsRepairedOf repaired.now (text_in body)) }
+{
+    let object = repaired_tree(alloc, repaired)?;
+    match repaired_of(alloc, repaired)? {
+        Some(text) => Ok(Body::Both(object, text)),
+        None => Ok(Body::Object(object)),
+    }
 }

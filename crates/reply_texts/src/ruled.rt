@@ -1,9 +1,12 @@
-//! The ruling on words, in words and as an object.
+//! The ruling on words, in words and as a tree.
 ghost use Rattle.std.specs.Prelude.{◌≡◌, IfOk, None};
+ghost use Rattle.json_trees.specs.Trees.{view};
+ghost use Rattle.reply_texts.specs.Objects.{ruled_of};
 ghost use Rattle.reply_texts.specs.Rulings.{ruling_line, bad_word_line, ruled_line};
 
-use serde::Serialize;
+use json_trees::Tree;
 use serve_answers::{Printed, Ruled};
+use sheet_json::{no_word_tree, ruling_tree};
 use std::alloc::{AllocError, Global};
 use word_rulings::AskedWord;
 
@@ -58,77 +61,12 @@ pub fn each_in_words(alloc: Global, ruled: &Option<Ruled>) -> Result<Printed, Al
     Ok(Printed::report(lines))
 }
 
-/// A word.
-#[derive(Drop, Serialize)]
-struct WordObject {
-    word: String,
-    acceptable: bool,
-}
-
-/// The ruling on words. Every object has a line and a fault; here both are null.
-#[derive(Drop, Serialize)]
-struct RulingObject {
-    verdict: &'static str,
-    line: Option<u32>,
-    fault: Option<u32>,
-    words: Vec<WordObject>,
-}
-
-/// That a word does not have 2 to 15 letters.
-#[derive(Drop, Serialize)]
-struct NoWordObject {
-    verdict: &'static str,
-    line: Option<u32>,
-    fault: Option<u32>,
-}
-
-/// Appends an object without an LF.
-fn push_object<T: Serialize>(
-    alloc: Global,
-    text: &mut Vec<u8>,
-    object: &T,
-) -> Result<(), AllocError> {
-    // For data without floats and without maps with other keys, lack of memory is the only error.
-    let Ok(bytes) = serde_json::to_vec(alloc, object) else {
-        return Err(AllocError);
-    };
-    text.extend_from_slice(bytes.as_slice())?;
-    Ok(())
-}
-
-/// The words with the ruling on each.
-fn word_objects(alloc: Global, ruled: &Ruled) -> Result<Vec<WordObject>, AllocError> {
-    let mut objects = Vec::new(alloc);
-    for (word, acceptable) in ruled.words.iter().zip(ruled.ruling.each.as_slice()) {
-        objects.push(WordObject {
-            word: String::from_utf8_lossy(alloc, word.letters.as_slice())?,
-            acceptable: *acceptable,
-        })?;
+/// The ruling on words as a tree: on all together, and on each; or that one of them is not a word.
+pub fn ruled_of(alloc: Global, ruled: &Option<Ruled>) -> Result<Tree, AllocError>
+    ensures { IfOk result (λ tree. view tree ≡ ruled_of ruled.now) }
+{
+    match ruled {
+        Some(ruled) => ruling_tree(alloc, ruled.words.as_slice(), &ruled.ruling),
+        None => no_word_tree(alloc),
     }
-    Ok(objects)
-}
-
-/// Appends the ruling on words: on all together, and on each.
-pub fn push_ruled(alloc: Global, text: &mut Vec<u8>, ruled: &Ruled) -> Result<(), AllocError> {
-    let object = RulingObject {
-        verdict: if ruled.ruling.acceptable {
-            "acceptable"
-        } else {
-            "not acceptable"
-        },
-        line: None,
-        fault: None,
-        words: word_objects(alloc, ruled)?,
-    };
-    push_object(alloc, text, &object)
-}
-
-/// Appends that a word does not have 2 to 15 letters.
-pub fn push_no_word(alloc: Global, text: &mut Vec<u8>) -> Result<(), AllocError> {
-    let object = NoWordObject {
-        verdict: "bad word",
-        line: None,
-        fault: None,
-    };
-    push_object(alloc, text, &object)
 }

@@ -3,27 +3,15 @@ ghost use Rattle.std.specs.Prelude.{IfOk};
 ghost use Rattle.reply_texts.specs.Words.{IsInWords};
 
 use crate::audits::audit_words;
-use crate::bodies::Body;
 use crate::compared::compared_words;
 use crate::drafted::{filled_words, next_words};
 use crate::explained::explained_words;
 use crate::made::{annotated_words, paged_words};
-use crate::objects::as_object;
+use crate::objects::in_object;
 use crate::repaired::repaired_words;
 use crate::ruled::ruled_words;
 use serve_answers::{Printed, Reply};
 use std::alloc::{AllocError, Global};
-
-/// What is written of an answer that has no words of its own.
-fn object_alone(alloc: Global, reply: &Reply) -> Result<Printed, AllocError> {
-    match as_object(alloc, reply)? {
-        Body::Object(report) | Body::Text(report) => Ok(Printed::report(report)),
-        Body::Both(report, kept) => Ok(Printed {
-            report,
-            kept: Some(kept),
-        }),
-    }
-}
 
 /// What is written of a reply in words. A reply that the program gives only as an object is one.
 ///
@@ -47,6 +35,6 @@ pub fn in_words(alloc: Global, reply: &Reply) -> Result<Printed, AllocError>
         | Reply::Boarded(_)
         | Reply::Found(_)
         | Reply::Checked(_)
-        | Reply::Tidied(_) => object_alone(alloc, reply),
+        | Reply::Tidied(_) => in_object(alloc, reply),
     }
 }

@@ -12,7 +12,7 @@ use std::alloc::{AllocError, Global};
 
 /// Whether the event after a place takes back the play there.
 #[tactic(auto, using(game_turns::proofs::PlaceLaws::copied_get))]
-pub(crate) fn is_taken_back(events: &[Event], place: usize) -> bool
+pub fn is_taken_back(events: &[Event], place: usize) -> bool
     requires { place < length events.now }
     ensures { result ≡ next_withdraws (slice_get events.now (place + 1)) }
 {

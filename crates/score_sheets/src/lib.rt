@@ -14,7 +14,7 @@ mod sheets;
 mod sums;
 mod unders;
 
-pub use boards::{pictures_of, shown_at};
+pub use boards::{is_taken_back, pictures_of, shown_at};
 pub use gains::{gain_in, given_by};
 pub use pictures::Picture;
 pub use positions::{LaidPlay, PlayedTile, Position, positions_of};

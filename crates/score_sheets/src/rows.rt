@@ -5,10 +5,8 @@ ghost use Rattle.ref_tiles.specs.declared.rulebook.Rules.{Rules};
 ghost use Rattle.gcg_read.specs.Numerals.{IsPoints};
 ghost use Rattle.gcg_read.specs.declared.events.Event.{Event};
 ghost use Rattle.lex_check.specs.Pairs.{list_in};
-ghost use Rattle.game_turns.specs.Machines.{state_of};
 ghost use Rattle.game_turns.specs.Tallies.{tally_at};
-ghost use Rattle.game_notes.specs.Following.{Follows};
-ghost use Rattle.event_notes.specs.Bests.{IsTurnBest};
+ghost use Rattle.known_bests.specs.Besides.{IsBeside};
 ghost use Rattle.known_bests.specs.Known.{AreKnown};
 ghost use Rattle.game_rows.specs.Walks.{IsWalk};
 ghost use Rattle.score_sheets.specs.Unders.{known_under};
@@ -18,12 +16,11 @@ use crate::boards::is_taken_back;
 use crate::gains::given_by;
 use crate::unders::cells_under;
 use event_notes::{SpelledWord, TurnBest, unlisted_of};
-use game_notes::Follow;
 use game_rows::{Numbers, Row, Stop, Walk};
 use game_sheets::{due, had_before, is_right_sum};
-use game_turns::{Machine, legal_play};
-use gcg_read::{Event, EventKind, Points};
-use known_bests::{KnownBests, find_best_of_turn, known_best_of_turn};
+use game_turns::Machine;
+use gcg_read::{Event, Points};
+use known_bests::{Beside, KnownBests};
 use lex_check::Checked;
 use lex_list::WordList;
 use ref_tiles::{Rules, Tile};
@@ -147,41 +144,23 @@ struct BestThere {
     under: Vec<Option<Tile>>,
 }
 
-/// What is said of the best play of an event that gave `gave` points; `machine` is before it. It searches only for what is not known.
-fn turn_best(
-    rules: &Rules,
-    pair: &Checked<'_>,
-    machine: &Machine,
-    follow: &Follow,
-    event: &Event,
-    gave: i32,
-    known: &mut KnownBests,
-) -> TurnBest
-    requires follows { Follows rules.now (list_in pair.now) follow.now }
-    requires known { AreKnown rules.now (list_in pair.now) known.old }
-    ensures best { IsTurnBest rules.now (list_in pair.now) (state_of machine.now) event.now gave result }
-    ensures known { AreKnown rules.now (list_in pair.now) known.new }
-{
-    if let Some(best) = known_best_of_turn(known, machine, event, gave) {
-        return best;
-    }
-    find_best_of_turn(rules, pair, machine, follow, event, gave, known)
-}
-
 /// What is said of the best play of the event at a place, which gave `gave` points.
 fn best_at(
     alloc: Global,
     rules: &Rules,
     pair: &Checked<'_>,
+    events: &[Event],
     walk: &Walk,
-    follow: &Follow,
+    beside: &mut Beside,
     known: &mut KnownBests,
     place: usize,
     event: &Event,
     gave: i32,
 ) -> Result<BestThere, AllocError>
-    requires follows { Follows rules.now (list_in pair.now) follow.now }
+    requires place { place < length events.now }
+    requires beside { IsBeside rules.now (list_in pair.now) beside.old }
     requires known { AreKnown rules.now (list_in pair.now) known.old }
+    ensures beside { OnOk result (IsBeside rules.now (list_in pair.now) beside.new) }
     ensures known { OnOk result (AreKnown rules.now (list_in pair.now) known.new) }
     ensures best { IfOk result (λ there. (written right : List Event) → IsWalk rules.now (list_in pair.now) written right walk.now → place < length written
         → IsBestAt rules.now (list_in pair.now) right place event.now gave there.best
@@ -189,7 +168,7 @@ fn best_at(
 {
     match game_before(walk, place) {
         Some(machine) => {
-            let best = turn_best(rules, pair, machine, follow, event, gave, known);
+            let best = beside.best_at(rules, pair, machine, events, place, event, gave, known);
             let under = cells_under(alloc, machine.board(), &best)?;
             Ok(BestThere {
                 best: Some(best),
@@ -237,13 +216,14 @@ fn row_at(
     pair: &Checked<'_>,
     events: &[Event],
     walk: &Walk,
-    follow: &Follow,
+    beside: &mut Beside,
     known: &mut KnownBests,
     place: usize,
 ) -> Result<SheetRow, AllocError>
     requires place { place < length events.now }
-    requires follows { Follows rules.now (list_in pair.now) follow.now }
+    requires beside { IsBeside rules.now (list_in pair.now) beside.old }
     requires known { AreKnown rules.now (list_in pair.now) known.old }
+    ensures beside { OnOk result (IsBeside rules.now (list_in pair.now) beside.new) }
     ensures known { OnOk result (AreKnown rules.now (list_in pair.now) known.new) }
     ensures row { IfOk result (λ row. (right : List Event) → IsWalk rules.now (list_in pair.now) events.now right walk.now
         → IsSheetRowAt rules.now (list_in pair.now) events.now right place row) }
@@ -252,7 +232,9 @@ fn row_at(
     let right = right_numbers(walk, place, event);
     let taken_back = is_taken_back(events, place);
     let gave = given_by(taken_back, right.score);
-    let there = best_at(alloc, rules, pair, walk, follow, known, place, event, gave)?;
+    let there = best_at(
+        alloc, rules, pair, events, walk, beside, known, place, event, gave,
+    )?;
     let noted = noted_at(alloc, pair.list(), walk, place)?;
     let had = had_before(events, event.player, place);
     let due = known_if(noted.allowed, right.total);
@@ -265,28 +247,6 @@ fn row_at(
         unlisted: noted.unlisted,
         taken_back,
     })
-}
-
-/// Lays the play of an event on the board that follows, if it stands and can be laid.
-fn follow_play(
-    rules: &Rules,
-    pair: &Checked<'_>,
-    event: &Event,
-    taken_back: bool,
-    follow: &mut Follow,
-)
-    requires { Follows rules.now (list_in pair.now) follow.old }
-    ensures { Follows rules.now (list_in pair.now) follow.new }
-{
-    if taken_back {
-        return;
-    }
-    let EventKind::Play { at, dir, word } = &event.kind else {
-        return;
-    };
-    if let Ok(play) = legal_play(follow.board(), *at, *dir, word.as_slice()) {
-        follow.apply(rules, pair, &play);
-    }
 }
 
 /// The rows of a score sheet, one for each event in order, by a walk over the events.
@@ -302,12 +262,20 @@ pub fn rows_of(
     ensures { IfOk result (λ rows. (right : List Event) → IsWalk rules.now (list_in pair.now) events.now right walk.now
         → AreSheetRows rules.now (list_in pair.now) events.now right (length events.now) rows.items) }
 {
-    let mut follow = Follow::new(rules, pair);
+    let mut beside = Beside::new(rules, pair);
     let mut known = KnownBests::new(alloc, KEPT_BESTS)?;
     let mut rows = Vec::new(alloc);
     for place in 0..events.len() {
-        let row = row_at(alloc, rules, pair, events, walk, &follow, &mut known, place)?;
-        follow_play(rules, pair, &events[place], row.taken_back, &mut follow);
+        let row = row_at(
+            alloc,
+            rules,
+            pair,
+            events,
+            walk,
+            &mut beside,
+            &mut known,
+            place,
+        )?;
         rows.push(row)?;
     }
     Ok(rows)

@@ -2,7 +2,6 @@
 ghost use Rattle.std.specs.Prelude.{◌≡◌, ◌&&◌, is_none, ℕ, List, IfOk, OnOk};
 ghost use Rattle.lex_check.specs.Pairs.{list_in};
 ghost use Rattle.game_case.specs.Explaining.{IsCaseOf, HasItsWalk};
-ghost use Rattle.page_answers.specs.Pages.{IsLikelyAsked};
 ghost use Rattle.serve_answers.specs.Explained.{has_wrong_total, IsAmountAsked, IsCaseExplanation, IsWrongAsked, Explains, IsExplainedCase};
 ghost use Rattle.serve_answers.specs.Given.{FailsForMemoryAlone, read_of};
 
@@ -15,9 +14,10 @@ use game_case::{Audit, Case, Entry, Finding};
 use game_turns::RuleFault;
 use lex_check::Checked;
 use lex_list::WordList;
+use page_answers::likely_asked;
 use record_repairs::Repair;
 use ref_tiles::Rules;
-use repair_answers::{Likely, amount_repair, likely_in_case};
+use repair_answers::{Likely, amount_repair};
 use std::alloc::{AllocError, Global};
 use unread_lines::UnreadLine;
 
@@ -55,24 +55,6 @@ fn explanation_of(
         (Ok(entry), Some(walk)) => explain(alloc, rules, list, entry, walk, line),
         (Ok(_), None) => unreachable!(),
         (Err(_), _) => Ok(None),
-    }
-}
-
-/// The likely repair of a case, if it is asked for. Afterwards the case is as it was.
-pub fn likely_asked(
-    alloc: Global,
-    rules: &Rules,
-    pair: &Checked<'_>,
-    case: &mut Case,
-    asked: bool,
-) -> Result<Option<Likely>, AllocError>
-    ensures likely { IfOk result (IsLikelyAsked asked rules.now (list_in pair.now) case.old.text.items case.old.read) }
-    ensures same { OnOk result (case.new ≡ case.old) }
-{
-    if asked {
-        likely_in_case(alloc, rules, pair, case)
-    } else {
-        Ok(None)
     }
 }
 

@@ -5,12 +5,11 @@ ghost use Rattle.game_case.specs.Explaining.{IsCaseOf, HasItsWalk};
 ghost use Rattle.page_answers.specs.Pages.{IsPagedCase};
 ghost use Rattle.serve_answers.specs.Given.{FailsForMemoryAlone, read_of};
 
-use crate::explained::likely_asked;
 use crate::games::case_in;
 use crate::judges::Judges;
 use call_stages::RunFault;
 use game_case::Case;
-use page_answers::{PagedCase, paged_case};
+use page_answers::{PagedCase, likely_asked, paged_case};
 use std::alloc::{AllocError, Global};
 
 /// The page of a case, with its likely repair if that is requested.

@@ -1,16 +1,34 @@
 -- The lines of answers.
-use Rattle.std.proofs.Common.{◌≡◌, ◌⊎◌, ◌≤◌, inl, inr, ℕ, Bool, true, false, IsTrue, IsUtf8, List, [], codes, Option, Some, None, Result, Ok, Err, IfErr, OnOk, sym, subst, ◌∙◌}
+use Rattle.std.proofs.Common.{◌≡◌, ◌⊎◌, ◌≤◌, ◌++◌, inl, inr, ℕ, Bool, true, false, IsTrue, IsUtf8, List, [], codes, Option, Some, None, Result, Ok, Err, IfErr, OnOk, sym, subst, ◌∙◌}
 use Rattle.page_answers.specs.declared.makers.Maker.{Maker}
 use Rattle.ref_tiles.specs.declared.rulebook.Rules.{Rules}
 use Rattle.serde_json.specs.Data.{Data, depth}
 use Rattle.serde_json.specs.Read.{read, max_depth}
 use Rattle.serde_json.specs.Written.{has_float, compact_text}
-use Rattle.serve_commands.specs.AnswerLines.{GoesOnWith, IsAnswerLine, IsIdText, IsLineBy, IsLineOf, IsLineOfText, IsRefusedLine, head}
+use Rattle.exit_statuses.specs.declared.exits.Exit.{Exit}
+use Rattle.exit_statuses.specs.Exits.{status_of}
+use Rattle.json.specs.Json.{Json}
+use Rattle.serve_commands.specs.AnswerLines.{answer_line, no_memory_line, refused_line, IsAnswerLine, IsIdText, IsLineBy, IsLineOf, IsLineOfText, IsRefusedLine, IsRefusedWith}
+use Rattle.serve_commands.specs.Responses.{IsAnswerTo}
 use Rattle.serve_requests.specs.declared.refusals.Refusal.{Refusal}
 use Rattle.serve_requests.specs.declared.requests.Request.{Request}
 use Rattle.serve_requests.specs.Asked.{IsRequestIn}
 use Rattle.serve_requests.specs.Reasons.{IsReason, IsReasonOfId}
 use Rattle.serve_requests.specs.Said.{value_at}
+
+-- the line of an answer, and one that says why a line is not a request
+pub told : {E : Type 0} (maker : Maker) (rules : Rules) (list : List (List ℕ)) (asked : Request) (exit : Exit) (object : Option Json) (said : Option (List ℕ)) (id old new : List ℕ) (result : Result Unit E)
+    → IsAnswerTo maker rules list asked exit object said → OnOk result (new ≡ old ++ answer_line id (status_of exit) object said) → OnOk result (IsAnswerLine maker rules list asked id old new)
+told maker rules list asked exit object said id old new (Ok done) is line = record { exit = exit; object = object; said = said; answer = is; line = line }
+told maker rules list asked exit object said id old new (Err why) is line = tt
+
+pub refused_with : {E : Type 0} (id error old new : List ℕ) (result : Result Unit E) → OnOk result (new ≡ old ++ refused_line id error) → OnOk result (IsRefusedWith id old new)
+refused_with id error old new (Ok done) line = record { error = error; line = line }
+refused_with id error old new (Err why) line = tt
+
+pub refused_by : {E : Type 0} (id old new : List ℕ) (result : Result Unit E) → OnOk result (IsRefusedWith id old new) → OnOk result (IsRefusedLine old new)
+refused_by id old new (Ok done) is = record { id = id; refused = is }
+refused_by id old new (Err why) is = tt
 
 pub answered : {E : Type 0} (maker : Maker) (rules : Rules) (list : List (List ℕ)) (d : Data) (asked : Request) (id old new : List ℕ) (result : Result Unit E) → IsIdText (value_at (codes "id") d) id
     → IsRequestIn d asked → OnOk result (IsAnswerLine maker rules list asked id old new) → OnOk result (IsLineOf maker rules list d old new)
@@ -23,13 +41,13 @@ refused maker rules list d why old new (Ok done) reason line = inr (inr (record 
 refused maker rules list d why old new (Err error) reason line = tt
 
 pub no_memory : {E : Type 0} (maker : Maker) (rules : Rules) (list : List (List ℕ)) (d : Data) (id old new : List ℕ) (result : Result Unit E) → IsIdText (value_at (codes "id") d) id
-    → OnOk result (GoesOnWith (head id 4) old new) → OnOk result (IsLineOf maker rules list d old new)
+    → OnOk result (new ≡ old ++ no_memory_line id) → OnOk result (IsLineOf maker rules list d old new)
 no_memory maker rules list d id old new (Ok done) is line = inr (inl (record { id = id; id_is = is; line = line }))
 no_memory maker rules list d id old new (Err error) is line = tt
 
 pub id_refused : {E : Type 0} (maker : Maker) (rules : Rules) (list : List (List ℕ)) (d : Data) (why : Refusal) (id old new : List ℕ) (result : Result Unit E) → IsReasonOfId d why
-    → OnOk result (GoesOnWith (head id 64) old new) → OnOk result (IsLineOf maker rules list d old new)
-id_refused maker rules list d why id old new (Ok done) reason line = inr (inr (record { why = why; reason = inr reason; refused = record { id = id; line = line } }))
+    → OnOk result (IsRefusedWith id old new) → OnOk result (IsLineOf maker rules list d old new)
+id_refused maker rules list d why id old new (Ok done) reason line = inr (inr (record { why = why; reason = inr reason; refused = record { id = id; refused = line } }))
 id_refused maker rules list d why id old new (Err error) reason line = tt
 
 pub with_id : (o : Option Data) (v : Data) (id : List ℕ) → Some v ≡ o → (has_float v ≡ false → id ≡ compact_text v) → (depth v ≤ max_depth → read id ≡ Some v) → IsIdText o id
@@ -43,20 +61,17 @@ pub of_text : {E : Type 0} (maker : Maker) (rules : Rules) (list : List (List �
 of_text maker rules list d o new result is line = subst (λ (x : Option Data). OnOk result (IsLineBy maker rules list x new)) (sym is) line
 
 pub no_text : {E : Type 0} (maker : Maker) (rules : Rules) (list : List (List ℕ)) (o : Option Data) (id new : List ℕ) (result : Result Unit E) → o ≡ None
-    → OnOk result (GoesOnWith (head id 64) [] new) → OnOk result (IsLineBy maker rules list o new)
-no_text maker rules list o id new (Ok done) is line = subst (λ (x : Option Data). IsLineBy maker rules list x new) (sym is) (record { id = id; line = line })
+    → OnOk result (IsRefusedWith id [] new) → OnOk result (IsLineBy maker rules list o new)
+no_text maker rules list o id new (Ok done) is line = subst (λ (x : Option Data). IsLineBy maker rules list x new) (sym is) (record { id = id; refused = line })
 no_text maker rules list o id new (Err error) is line = tt
 
--- a line that says that a line is not a request
-pub refused_line : {E : Type 0} (id old new : List ℕ) (result : Result Unit E) → OnOk result (GoesOnWith (head id 64) old new) → OnOk result (IsRefusedLine old new)
-refused_line id old new (Ok done) line = record { id = id; line = line }
-refused_line id old new (Err error) line = tt
+-- a line that says that a line is not a request, where nothing was written before it
+pub refused_first : {E : Type 0} (id old new : List ℕ) (result : Result Unit E) → old ≡ [] → OnOk result (IsRefusedWith id old new) → OnOk result (IsRefusedWith id [] new)
+refused_first id old new result empty line = subst (λ (o : List ℕ). OnOk result (IsRefusedWith id o new)) empty line
 
--- the same where nothing was written before it
 pub id_refused_first : {E : Type 0} (maker : Maker) (rules : Rules) (list : List (List ℕ)) (d : Data) (why : Refusal) (id old new : List ℕ) (result : Result Unit E) → old ≡ [] → IsReasonOfId d why
-    → OnOk result (GoesOnWith (head id 64) old new) → OnOk result (IsLineOf maker rules list d [] new)
-id_refused_first maker rules list d why id old new result empty reason line =
-    id_refused maker rules list d why id [] new result reason (subst (λ (o : List ℕ). OnOk result (GoesOnWith (head id 64) o new)) empty line)
+    → OnOk result (IsRefusedWith id old new) → OnOk result (IsLineOf maker rules list d [] new)
+id_refused_first maker rules list d why id old new result empty reason line = id_refused maker rules list d why id [] new result reason (refused_first id old new result empty line)
 
 not_true : (b : Bool) → b ≡ false → IsTrue b → ⊥
 not_true b e holds =
@@ -65,10 +80,10 @@ not_true b e holds =
 
 -- a text that is no object, for another reason than that memory was refused
 pub not_json : {E : Type 0} (Memory : Type 0) (maker : Maker) (rules : Rules) (list : List (List ℕ)) (text : List ℕ) (b : Bool) (id old new : List ℕ) (result : Result Unit E) → b ≡ false
-    → (Memory → IsTrue b) → ((Memory → ⊥) → IsUtf8 text → read text ≡ None) → old ≡ [] → OnOk result (GoesOnWith (head id 64) old new)
+    → (Memory → IsTrue b) → ((Memory → ⊥) → IsUtf8 text → read text ≡ None) → old ≡ [] → OnOk result (IsRefusedWith id old new)
     → OnOk result (IsLineOfText maker rules list text new)
 not_json Memory maker rules list text b id old new (Ok done) none test fails empty line =
     λ utf8.
     subst (λ (x : Option Data). IsLineBy maker rules list x new) (sym (fails (λ memory. not_true b none (test memory)) utf8))
-    (record { id = id; line = subst (λ (o : List ℕ). GoesOnWith (head id 64) o new) empty line })
+    (record { id = id; refused = subst (λ (o : List ℕ). IsRefusedWith id o new) empty line })
 not_json Memory maker rules list text b id old new (Err error) none test fails empty line = tt

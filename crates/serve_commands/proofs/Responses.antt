@@ -7,10 +7,13 @@ use Rattle.serve_requests.specs.declared.requests.Request.{Request}
 use Rattle.serve_answers.specs.declared.replies.Reply.{Reply}
 use Rattle.serve_answers.specs.Exits.{status_of_reply}
 use Rattle.serve_answers.specs.Replies.{IsReplyTo}
+use Rattle.reply_texts.specs.Bodies.{object_in, text_in}
+use Rattle.reply_texts.specs.Objects.{object_of, IsText}
 use Rattle.serve_commands.specs.declared.answering.Response.{Response}
 use Rattle.serve_commands.specs.Responses.{IsAnswerTo}
 
 pub answered : {E : Type 0} (maker : Maker) (rules : Rules) (list : List (List ℕ)) (asked : Request) (reply : Reply) (result : Result Response E) → IsReplyTo maker rules list asked reply
-    → IfOk result (λ response. status_of response.exit ≡ status_of_reply reply) → IfOk result (λ response. IsAnswerTo maker rules list asked response.exit)
-answered maker rules list asked reply (Ok response) is status = record { reply = reply; is_reply = is; status = status }
-answered maker rules list asked reply (Err why) is status = tt
+    → IfOk result (λ response. status_of response.exit ≡ status_of_reply reply) → IfOk result (λ response. object_in response.body ≡ object_of reply) → IfOk result (λ response. IsText reply (text_in response.body))
+    → IfOk result (λ response. IsAnswerTo maker rules list asked response.exit (object_in response.body) (text_in response.body))
+answered maker rules list asked reply (Ok response) is status object said = record { reply = reply; is_reply = is; status = status; object_is = object; said_is = said }
+answered maker rules list asked reply (Err why) is status object said = tt

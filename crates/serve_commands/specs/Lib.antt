@@ -1,3 +1,4 @@
 pub mod Telling
 pub mod Responses
 pub mod AnswerLines
+pub mod Ready

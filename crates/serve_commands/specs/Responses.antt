@@ -1,5 +1,6 @@
 -- The answer to a request.
-use Rattle.std.specs.Prelude.{◌≡◌, ℕ, List}
+use Rattle.std.specs.Prelude.{◌≡◌, ℕ, List, Option}
+use Rattle.json.specs.Json.{Json}
 use Rattle.ref_tiles.specs.declared.rulebook.Rules.{Rules}
 use Rattle.exit_statuses.specs.declared.exits.Exit.{Exit}
 use Rattle.exit_statuses.specs.Exits.{status_of}
@@ -8,9 +9,12 @@ use Rattle.serve_requests.specs.declared.requests.Request.{Request}
 use Rattle.serve_answers.specs.declared.replies.Reply.{Reply}
 use Rattle.serve_answers.specs.Exits.{status_of_reply}
 use Rattle.serve_answers.specs.Replies.{IsReplyTo}
+use Rattle.reply_texts.specs.Objects.{object_of, IsText}
 
--- its status is that of the reply to the request
-pub record IsAnswerTo (maker : Maker) (rules : Rules) (list : List (List ℕ)) (asked : Request) (exit : Exit) : Type 0 where
+-- its status, its object and its text are those of the reply to the request
+pub record IsAnswerTo (maker : Maker) (rules : Rules) (list : List (List ℕ)) (asked : Request) (exit : Exit) (object : Option Json) (said : Option (List ℕ)) : Type 0 where
   pub reply : Reply
   pub is_reply : IsReplyTo maker rules list asked reply
   pub status : status_of exit ≡ status_of_reply reply
+  pub object_is : object ≡ object_of reply
+  pub said_is : IsText reply said

@@ -4,6 +4,8 @@ ghost use Rattle.lex_check.specs.Pairs.{list_in};
 ghost use Rattle.exit_statuses.specs.Exits.{status_of};
 ghost use Rattle.known_bests.specs.Known.{AreKnown};
 ghost use Rattle.serve_answers.specs.Exits.{status_of_reply};
+ghost use Rattle.reply_texts.specs.Bodies.{object_in, text_in};
+ghost use Rattle.reply_texts.specs.Objects.{object_of, IsText};
 ghost use Rattle.serve_commands.specs.Responses.{IsAnswerTo};
 
 use call_stages::RunFault;
@@ -25,7 +27,9 @@ pub struct Response {
 
 /// The answer that gives a reply.
 fn response_of(alloc: Global, reply: &Reply) -> Result<Response, AllocError>
-    ensures { IfOk result (λ response. status_of response.exit ≡ status_of_reply reply.now) }
+    ensures status { IfOk result (λ response. status_of response.exit ≡ status_of_reply reply.now) }
+    ensures has_object { IfOk result (λ response. object_in response.body ≡ object_of reply.now) }
+    ensures has_text { IfOk result (λ response. IsText reply.now (text_in response.body)) }
 {
     let exit = exit_of_reply(reply);
     let body = as_object(alloc, reply)?;
@@ -46,7 +50,7 @@ pub fn answer_to(
 ) -> Result<Response, AllocError>
     requires { AreKnown judges.now.rules.now (list_in judges.now.pair.now) known.old }
     ensures known { AreKnown judges.now.rules.now (list_in judges.now.pair.now) known.new }
-    ensures answer { IfOk result (λ response. IsAnswerTo judges.now.maker.now judges.now.rules.now (list_in judges.now.pair.now) request.now response.exit) }
+    ensures answer { IfOk result (λ response. IsAnswerTo judges.now.maker.now judges.now.rules.now (list_in judges.now.pair.now) request.now response.exit (object_in response.body) (text_in response.body)) }
 {
     match reply_to(alloc, judges, request, known) {
         Ok(reply) => response_of(alloc, &reply),

@@ -11,7 +11,7 @@ use command_files::{
     Digests, GivenFiles, RulesFile, Told, UsedOutput, Words, digests_of, given_up, open_inputs,
     refuse_in_json, shown, tell_others, told_in_json, write,
 };
-use command_line::{PROGRAM, PairFiles, STANDARD_INPUT};
+use command_line::{PROGRAM, PairFiles, SHORT_VERSION, STANDARD_INPUT};
 use devices::FromRead;
 use exit_statuses::{Exit, Trouble};
 use known_bests::KnownBests;
@@ -80,7 +80,7 @@ fn serve_given<R: Runtime + AllocGlobal, F: Read + Drop, S: Read + Drop, B: BufR
 ) -> Result<Exit, Trouble<'static>> {
     let (Ok(maker), Ok(ready)) = (
         maker_of(given),
-        ready_line(rt.alloc(), given.pair.list().len()),
+        ready_line(rt.alloc(), given.pair.list().len(), SHORT_VERSION),
     ) else {
         return Err(Trouble::NoMemory);
     };

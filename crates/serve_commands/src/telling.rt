@@ -1,20 +1,27 @@
 //! Answers as lines.
-ghost use Rattle.std.specs.Prelude.{◌≡◌, ◌++◌, [], codes, OnOk};
+ghost use Rattle.std.specs.Prelude.{◌≡◌, ◌++◌, [], codes, IfOk, OnOk, option_map};
+ghost use Rattle.std.specs.Option.{option_copied};
+ghost use Rattle.std.specs.String.{string_bytes};
+ghost use Rattle.json_trees.specs.Texts.{json_line};
+ghost use Rattle.json_trees.specs.Trees as trees;
 ghost use Rattle.lex_check.specs.Pairs.{list_in};
 ghost use Rattle.exit_statuses.specs.Exits.{status_of};
 ghost use Rattle.known_bests.specs.Known.{AreKnown};
 ghost use Rattle.serde_json.specs.View.{view};
-ghost use Rattle.serve_commands.specs.AnswerLines.{GoesOn, GoesOnWith, IsIdText, IsAnswerLine, IsRefusedLine, IsLineOf, IsLineOfText, head};
+ghost use Rattle.reply_texts.specs.Bodies.{object_in, text_in};
+ghost use Rattle.serve_commands.specs.AnswerLines.{IsIdText, IsAnswerLine, IsRefusedLine, IsRefusedWith, IsLineOf, IsLineOfText, answer_line, head, no_memory_line, object_part, refused_line, text_part};
+ghost use Rattle.serve_commands.specs.Ready.{ready_object};
 ghost use Rattle.serve_requests.specs.Said.{value_at};
 
-use crate::answering::{Response, answer_to};
-use answer_json::push_trouble;
-use command_line::SHORT_VERSION;
+use crate::answering::answer_to;
+use answer_json::trouble_tree;
 use decimal_text::push_number;
 use exit_statuses::Exit;
+use json_trees::{
+    Tree, bool_tree, line_of, name_tree, object, push_tree, size_tree, string_tree, text_tree,
+};
 use known_bests::KnownBests;
 use reply_texts::Body;
-use serde::Serialize;
 use serde_json::Value;
 use serve_answers::Judges;
 use serve_requests::{Refusal, Request, id_in, request_in};
@@ -27,27 +34,17 @@ const NO_ID: &[u8] = b"null";
 pub const NO_MEMORY_LINE: &[u8] =
     b"{\"id\":null,\"status\":4,\"answer\":{\"verdict\":\"no memory\",\"line\":null,\"fault\":null,\"file\":null}}\n";
 
-/// That requests can be asked.
-#[derive(Drop, Serialize)]
-struct ReadyObject {
-    ready: bool,
-    words: usize,
-    version: &'static str,
-}
-
-/// The line that says that requests can be asked, and that the list has `words` words.
-pub fn ready_line(alloc: Global, words: usize) -> Result<Vec<u8>, AllocError> {
-    let object = ReadyObject {
-        ready: true,
-        words,
-        version: SHORT_VERSION,
-    };
-    // For data without floats and without maps with other keys, lack of memory is the only error.
-    let Ok(mut line) = serde_json::to_vec(alloc, &object) else {
-        return Err(AllocError);
-    };
-    line.push(b'\n')?;
-    Ok(line)
+/// The line that says that requests can be asked, that the list has `words` words, and which version of the program answers.
+pub fn ready_line(alloc: Global, words: usize, version: &'static str) -> Result<Vec<u8>, AllocError>
+    ensures { IfOk result (λ line. line.items ≡ json_line (ready_object words version.now)) }
+{
+    let fields = vec![in alloc;
+        ("ready", bool_tree(true)),
+        ("words", size_tree(words)),
+        ("version", name_tree(version)),
+    ]?;
+    let tree = object(fields);
+    line_of(alloc, &tree)
 }
 
 /// Appends the beginning of the line of an answer.
@@ -61,103 +58,80 @@ fn push_head(out: &mut Vec<u8>, id: &[u8], exit: Exit) -> Result<(), AllocError>
     Ok(())
 }
 
-/// Appends a text as a JSON string.
-fn push_text(alloc: Global, out: &mut Vec<u8>, text: &String) -> Result<(), AllocError>
-    ensures { OnOk result (GoesOn out.old.items out.new.items) }
+/// Appends the object of an answer, if it has one.
+fn push_object(out: &mut Vec<u8>, object: Option<&Tree>) -> Result<(), AllocError>
+    ensures { OnOk result (out.new.items ≡ out.old.items ++ object_part (option_map trees.view (option_copied object.entry))) }
 {
-    // For a text, lack of memory is the only error.
-    let Ok(bytes) = serde_json::to_vec(alloc, text) else {
-        return Err(AllocError);
-    };
-    out.extend_from_slice(bytes.as_slice())?;
-    Ok(())
-}
-
-/// An object without the LF at its end.
-fn without_feed(object: &[u8]) -> &[u8] {
     match object {
-        [object @ .., b'\n'] => object,
-        _ => object,
-    }
-}
-
-/// Appends the object of an answer.
-fn push_object(out: &mut Vec<u8>, object: &[u8]) -> Result<(), AllocError>
-    ensures { OnOk result (GoesOn out.old.items out.new.items) }
-{
-    out.extend_from_slice(b",\"answer\":")?;
-    out.extend_from_slice(without_feed(object))?;
-    Ok(())
-}
-
-/// Appends the text of an answer. Bytes that are not UTF-8 are written as U+FFFD.
-fn push_bytes(alloc: Global, out: &mut Vec<u8>, bytes: &[u8]) -> Result<(), AllocError>
-    ensures { OnOk result (GoesOn out.old.items out.new.items) }
-{
-    out.extend_from_slice(b",\"text\":")?;
-    let text = String::from_utf8_lossy(alloc, bytes)?;
-    push_text(alloc, out, &text)
-}
-
-/// Appends what an answer has in addition to its status: an object, a text, or both.
-fn push_parts(alloc: Global, out: &mut Vec<u8>, body: &Body) -> Result<(), AllocError>
-    ensures { OnOk result (GoesOn out.old.items out.new.items) }
-{
-    match body {
-        Body::Object(object) => push_object(out, object.as_slice()),
-        Body::Text(text) => push_bytes(alloc, out, text.as_slice()),
-        Body::Both(object, text) => {
-            push_object(out, object.as_slice())?;
-            push_bytes(alloc, out, text.as_slice())
+        None => Ok(()),
+        Some(tree) => {
+            out.extend_from_slice(b",\"answer\":")?;
+            push_tree(out, tree)
         }
     }
 }
 
-/// Appends the rest of the line of an answer.
-fn push_body(alloc: Global, out: &mut Vec<u8>, body: &Body) -> Result<(), AllocError>
-    ensures { OnOk result (GoesOn out.old.items out.new.items) }
+/// Appends the text of an answer, if it has one. Bytes that are not UTF-8 are written as U+FFFD.
+fn push_text(alloc: Global, out: &mut Vec<u8>, said: Option<&[u8]>) -> Result<(), AllocError>
+    ensures { OnOk result (out.new.items ≡ out.old.items ++ text_part (option_copied said.entry)) }
 {
-    push_parts(alloc, out, body)?;
-    out.extend_from_slice(b"}\n")
+    match said {
+        None => Ok(()),
+        Some(bytes) => {
+            out.extend_from_slice(b",\"text\":")?;
+            let tree = text_tree(alloc, bytes)?;
+            push_tree(out, &tree)
+        }
+    }
 }
 
 /// Appends the line of an answer.
-fn push_told(alloc: Global, out: &mut Vec<u8>, id: &[u8], told: &Response) -> Result<(), AllocError>
-    ensures { OnOk result (GoesOnWith (head id.now (status_of told.now.exit)) out.old.items out.new.items) }
+fn push_told(
+    alloc: Global,
+    out: &mut Vec<u8>,
+    id: &[u8],
+    exit: Exit,
+    body: &Body,
+) -> Result<(), AllocError>
+    ensures { OnOk result (out.new.items ≡ out.old.items ++ answer_line id.now (status_of exit) (object_in body.now) (text_in body.now)) }
 {
-    push_head(out, id, told.exit)?;
-    push_body(alloc, out, &told.body)
+    push_head(out, id, exit)?;
+    push_object(out, body.object())?;
+    push_text(alloc, out, body.text())?;
+    out.extend_from_slice(b"}\n")
 }
 
-/// Appends why a line is not a request.
-fn push_reason(alloc: Global, out: &mut Vec<u8>, refusal: Refusal<'_>) -> Result<(), AllocError>
-    ensures { OnOk result (GoesOn out.old.items out.new.items) }
+/// Appends the line that says why a line is not a request.
+fn push_error(out: &mut Vec<u8>, id: &[u8], error: String) -> Result<(), AllocError>
+    ensures { OnOk result (out.new.items ≡ out.old.items ++ refused_line id.now (string_bytes error)) }
 {
+    push_head(out, id, Exit::Usage)?;
     out.extend_from_slice(b",\"error\":")?;
-    let Ok(text) = format!(in alloc; "{refusal}") else {
-        return Err(AllocError);
-    };
-    push_text(alloc, out, &text)?;
+    push_tree(out, &string_tree(error))?;
     out.extend_from_slice(b"}\n")
 }
 
 /// Appends the line that says that a line is not a request.
+#[tactic(auto, using(crate::proofs::AnswerLines::refused_with))]
 fn push_refused(
     alloc: Global,
     out: &mut Vec<u8>,
     id: &[u8],
     refusal: Refusal<'_>,
 ) -> Result<(), AllocError>
-    ensures { OnOk result (GoesOnWith (head id.now 64) out.old.items out.new.items) }
+    ensures { OnOk result (IsRefusedWith id.now out.old.items out.new.items) }
 {
     if refusal == Refusal::NoMemory {
         return Err(AllocError);
     }
-    push_head(out, id, Exit::Usage)?;
-    push_reason(alloc, out, refusal)
+    let Ok(error) = format!(in alloc; "{refusal}") else {
+        return Err(AllocError);
+    };
+    push_error(out, id, error)
 }
 
 /// Appends the line that says that an object is not a request. Without a `do` its `id` does not count.
+#[tactic(auto, using(crate::proofs::AnswerLines::refused_by))]
 fn push_no_request(
     alloc: Global,
     out: &mut Vec<u8>,
@@ -174,6 +148,7 @@ fn push_no_request(
 }
 
 /// Appends the line of the answer to a request.
+#[tactic(auto, using(crate::proofs::AnswerLines::told))]
 fn push_answer(
     alloc: Global,
     out: &mut Vec<u8>,
@@ -187,7 +162,7 @@ fn push_answer(
     ensures line { OnOk result (IsAnswerLine judges.now.maker.now judges.now.rules.now (list_in judges.now.pair.now) request.now id.now out.old.items out.new.items) }
 {
     let told = answer_to(alloc, judges, request, known)?;
-    push_told(alloc, out, id, &told)
+    push_told(alloc, out, id, told.exit, &told.body)
 }
 
 /// Appends the line of the answer to an object with this id, if it is a request; otherwise that it is not one.
@@ -213,12 +188,10 @@ fn push_line_of(
 
 /// Appends that there is no memory for an answer.
 fn push_no_memory(alloc: Global, out: &mut Vec<u8>, id: &[u8]) -> Result<(), AllocError>
-    ensures { OnOk result (GoesOnWith (head id.now 4) out.old.items out.new.items) }
+    ensures { OnOk result (out.new.items ≡ out.old.items ++ no_memory_line id.now) }
 {
-    let mut object = Vec::new(alloc);
-    push_trouble(alloc, &mut object, "no memory", None)?;
-    push_head(out, id, Exit::Broken)?;
-    push_body(alloc, out, &Body::Object(object))
+    let body = Body::Object(trouble_tree(alloc, "no memory", None)?);
+    push_told(alloc, out, id, Exit::Broken, &body)
 }
 
 /// Makes the line of the answer to an object with this id, or the line that there is no memory for it.
@@ -273,11 +246,14 @@ fn make_line_of(
 /// # Errors
 ///
 /// It fails only if memory is refused.
+#[tactic(auto, using(crate::proofs::AnswerLines::refused_first))]
 pub fn make_refusal(
     alloc: Global,
     out: &mut Vec<u8>,
     refusal: Refusal<'_>,
-) -> Result<(), AllocError> {
+) -> Result<(), AllocError>
+    ensures { OnOk result (IsRefusedWith (codes "null") [] out.new.items) }
+{
     out.clear();
     push_refused(alloc, out, NO_ID, refusal)
 }

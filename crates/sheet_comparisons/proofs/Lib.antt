@@ -3,3 +3,4 @@ pub mod Found
 pub mod Wrong
 pub mod Racks
 pub mod Ahead
+pub mod FurthestStops

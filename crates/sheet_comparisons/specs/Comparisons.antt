@@ -1,14 +1,16 @@
 -- The comparison of two sheets.
-use Rattle.std.specs.Prelude.{⊤, ◌≡◌, ℕ, ◌^◌, bit_xor, List, [], length, slice_get, Option, Some, None}
+use Rattle.std.specs.Prelude.{◌≡◌, ◌⊎◌, ℕ, ◌^◌, ◌<◌, ◌≤◌, nat_lt, bit_xor, List, [], length, slice_get, Option, Some, None, if◌then◌else◌}
 use Rattle.ref_tiles.specs.declared.rulebook.Rules.{Rules}
+use Rattle.gcg_read.specs.declared.events.Event.{Event}
 use Rattle.sheet_alignments.specs.declared.merging.NumbersOf.TheVariants.{Taken}
-use Rattle.sheet_alignments.specs.Merging.{many_varied, many_choices}
+use Rattle.sheet_alignments.specs.Merging.{many_varied, many_choices, many_with_own_racks}
 use Rattle.sheet_comparisons.specs.declared.sheets.Sheets.{Sheets}
 use Rattle.sheet_comparisons.specs.declared.best.Best.{Best}
 use Rattle.sheet_comparisons.specs.declared.trials.Trial.{Trial}
+use Rattle.sheet_comparisons.specs.declared.corrections.Stopped.{Stopped}
 use Rattle.sheet_comparisons.specs.declared.comparing.Stop.{Stop}
 use Rattle.sheet_comparisons.specs.declared.comparing.Comparison.{Comparison}
-use Rattle.sheet_comparisons.specs.Choices.{choice_events}
+use Rattle.sheet_comparisons.specs.Choices.{choice_events, IsRight}
 use Rattle.sheet_comparisons.specs.Corrected.{Stops}
 use Rattle.sheet_comparisons.specs.Finds.{IsFoundTo}
 use Rattle.sheet_comparisons.specs.Trials.{IsTrial}
@@ -31,13 +33,56 @@ abbrev pub FlipsOf : Rules → (list : List (List ℕ)) → Sheets → Option Be
 FlipsOf rules list s None flips = flips ≡ []
 FlipsOf rules list s (Some b) flips = AreFlips rules list s b.choice flips
 
--- where the correction of a choice stops
-abbrev pub IsStop : Rules → (list : List (List ℕ)) → Sheets → Option Stop → Type 0
-IsStop rules list s None = ⊤
-IsStop rules list s (Some stop) = Stops rules list (choice_events s Taken stop.choice) stop.stopped
+-- ---- where a choice stops
 
--- The best of all choices, its results with the other line or the other rack of each item, and where a choice that is not a game stops.
+-- the rules allow each event of a choice with its right numbers
+pub record IsAllowed (rules : Rules) (list : List (List ℕ)) (s : Sheets) (choice : ℕ) : Type 0 where
+  pub right : List Event
+  pub is : IsRight rules list (choice_events s Taken choice) right
+
+-- where the correction of a choice stops; none if the rules allow each of its events
+abbrev pub IsStopOf : Rules → (list : List (List ℕ)) → Sheets → (choice : ℕ) → Option Stop → Type 0
+IsStopOf rules list s choice None = IsAllowed rules list s choice
+IsStopOf rules list s choice (Some stop) = (stop.choice ≡ choice) × Stops rules list (choice_events s Taken choice) stop.stopped
+
+-- the correction of a choice stops at a place or before it
+pub record StopsBy (rules : Rules) (list : List (List ℕ)) (s : Sheets) (choice place : ℕ) : Type 0 where
+  pub stopped : Stopped
+  pub stops : Stops rules list (choice_events s Taken choice) stopped
+  pub no_further : stopped.place ≤ place
+
+-- A choice goes no further than to a place, or the rules allow all of it.
+abbrev pub IsNoFurther : Rules → (list : List (List ℕ)) → Sheets → (choice place : ℕ) → Type 0
+IsNoFurther rules list s choice place = IsAllowed rules list s choice ⊎ StopsBy rules list s choice place
+
+-- The stop of one of the choices before one, and none of them that the rules refuse goes further.
+pub record IsFurthest (rules : Rules) (list : List (List ℕ)) (s : Sheets) (end : ℕ) (stop : Stop) : Type 0 where
+  pub before : stop.choice < end
+  pub stops : Stops rules list (choice_events s Taken stop.choice) stop.stopped
+  pub others : (choice : ℕ) → choice < end → IsNoFurther rules list s choice stop.stopped.place
+
+-- the same, or none if the rules allow each of these choices
+abbrev pub IsFurthestTo : Rules → (list : List (List ℕ)) → Sheets → (end : ℕ) → Option Stop → Type 0
+IsFurthestTo rules list s end None = (choice : ℕ) → choice < end → IsAllowed rules list s choice
+IsFurthestTo rules list s end (Some stop) = IsFurthest rules list s end stop
+
+-- The furthest stop of the choices that take each rack from the player's own sheet, since the rules do not look at stated racks; none is told if a choice
+-- is known to make a game.
+abbrev pub IsFurthestBy : Rules → (list : List (List ℕ)) → Sheets → Option Best → Option Stop → Type 0
+IsFurthestBy rules list s None stop = IsFurthestTo rules list s (many_with_own_racks s.pairs.items) stop
+IsFurthestBy rules list s (Some b) stop = stop ≡ None
+
+-- the stop of two that is further, or the first
+abbrev pub further : Option Stop → Option Stop → Option Stop
+further None second = second
+further (Some one) None = Some one
+further (Some one) (Some other) = if nat_lt one.stopped.place other.stopped.place then Some other else Some one
+
+-- ---- all of it
+
+-- The best of all choices, its results with the other line or the other rack of each item, and where the choice that goes furthest stops if none is known to
+-- make a game.
 pub record IsComparison (rules : Rules) (list : List (List ℕ)) (s : Sheets) (c : Comparison) : Type 0 where
   pub found : IsFoundTo rules list s (many_choices s.pairs.items) c.find
   pub flips : FlipsOf rules list s c.find.best c.flips.items
-  pub furthest : IsStop rules list s c.furthest
+  pub furthest : IsFurthestBy rules list s c.find.best c.furthest

@@ -1,8 +1,8 @@
 //! The comparison of two sheets.
-ghost use Rattle.std.specs.Prelude.{◌≡◌, ◌⊎◌, ◌<◌, IfOk, OnOk};
-ghost use Rattle.sheet_alignments.specs.Merging.{many_choices};
+ghost use Rattle.std.specs.Prelude.{◌≡◌, ◌<◌, IfOk, OnOk};
+ghost use Rattle.sheet_alignments.specs.Merging.{many_choices, many_with_own_racks};
 ghost use Rattle.sheet_comparisons.specs.Finds.{IsFoundTo};
-ghost use Rattle.sheet_comparisons.specs.Comparisons.{flipped, AreFlips, FlipsOf, IsStop, IsComparison};
+ghost use Rattle.sheet_comparisons.specs.Comparisons.{flipped, AreFlips, FlipsOf, IsStopOf, IsFurthestTo, IsFurthestBy, further, IsComparison};
 
 use crate::best::Best;
 use crate::corrections::{Correction, Stopped, correct};
@@ -93,7 +93,8 @@ fn flips_by(
     }
 }
 
-/// Where the correction of a choice stops.
+/// Where the correction of a choice stops; none if the rules allow each of its events.
+#[tactic(auto, using(crate::proofs::FurthestStops::allowed_by))]
 fn stop_of(
     alloc: Global,
     rules: &Rules,
@@ -101,7 +102,7 @@ fn stop_of(
     sheets: &Sheets,
     choice: usize,
 ) -> Result<Option<Stop>, AllocError>
-    ensures { IfOk result (IsStop rules.now list.now sheets.now) }
+    ensures { IfOk result (IsStopOf rules.now list.now sheets.now choice) }
 {
     let written = sheets.events(alloc, NumbersOf::Taken, choice)?;
     match correct(alloc, rules, list, written)? {
@@ -112,7 +113,7 @@ fn stop_of(
 
 /// The stop of two that is further, or the first.
 fn further(first: Option<Stop>, second: Option<Stop>) -> Option<Stop>
-    ensures { (result ≡ first) ⊎ (result ≡ second) }
+    ensures { result ≡ further first second }
 {
     match (first, second) {
         (Some(one), Some(other)) => {
@@ -128,13 +129,14 @@ fn further(first: Option<Stop>, second: Option<Stop>) -> Option<Stop>
 }
 
 /// The furthest stop of the choices that the rules refuse and that take each rack from the player's own sheet: the rules do not look at stated racks.
+#[tactic(auto, using(crate::proofs::FurthestStops::furthest_more, crate::proofs::FurthestStops::furthest_start))]
 fn furthest(
     alloc: Global,
     rules: &Rules,
     list: &WordList,
     sheets: &Sheets,
 ) -> Result<Option<Stop>, AllocError>
-    ensures { IfOk result (IsStop rules.now list.now sheets.now) }
+    ensures { IfOk result (IsFurthestTo rules.now list.now sheets.now (many_with_own_racks sheets.now.pairs.items)) }
 {
     let mut found = None;
     for choice in 0..many_with_own_racks(sheets.pairs.as_slice()) {
@@ -152,12 +154,12 @@ fn furthest_by(
     sheets: &Sheets,
     best: &Option<Best>,
 ) -> Result<Option<Stop>, AllocError>
-    ensures { IfOk result (IsStop rules.now list.now sheets.now) }
+    ensures { IfOk result (IsFurthestBy rules.now list.now sheets.now best.now) }
 {
-    if best.is_some() {
-        return Ok(None);
+    match best {
+        Some(_) => Ok(None),
+        None => furthest(alloc, rules, list, sheets),
     }
-    furthest(alloc, rules, list, sheets)
 }
 
 /// Compares two sheets of one game: tries each choice of their lines and racks.

@@ -1,178 +1,165 @@
-//! Audits as objects.
+//! Audits as trees.
+ghost use Rattle.std.specs.Prelude.{◌≡◌, IfOk, map, option_map};
+ghost use Rattle.std.specs.Option.{option_copied};
+ghost use Rattle.json_trees.specs.Trees.{fields_view, view};
+ghost use Rattle.json_trees.specs.Values.{array_of, or_null};
+ghost use Rattle.sheet_json.specs.Audits.{ahead_value, amount_object, audit_fields, audit_object, direction_value, finding_ending, finding_fault, finding_line, finding_word, kind_value, line_value, place_value, symbols_value, wrong_object, wrong_of};
 
 use answer_json::{
-    FaultObject, UnreadObject, VerdictFields, kind_name, number_of, play_fields, push_object,
-    text_of, text_unless_empty, unread_objects, verdict_fields,
+    ending_name, game_fault_tree, item_at, kind_direction_tree, kind_name, kind_place_tree,
+    kind_symbols_tree, number_of, players_array, standing_tree, unread_array,
 };
 use audit_lines::{AuditAnswer, ToldNumber};
-use call_stages::Verdict;
 use game_case::Finding;
 use game_sheets::Standing;
-use gcg_read::{Event, EventKind, Player, Record, Seat};
+use gcg_read::{Event, Record, Seat};
+use json_trees::{
+    Tree, array, count_tree, integer_or_null, integer_tree, name_tree, null_tree, object, text_tree,
+};
 use repair_answers::SheetAmount;
-use repair_json::{RepairObject, single_object};
-use serde::Serialize;
+use repair_json::single_tree;
 use std::alloc::{AllocError, Global};
 use unread_lines::UnreadLine;
 
-/// A player.
-#[derive(Drop, Serialize)]
-struct PlayerObject {
-    nick: Option<String>,
-    name: Option<String>,
+/// What is found of the corrected record, by its name.
+fn finding_name(finding: &Finding) -> &'static str
+    ensures { result.now ≡ finding_word finding.now }
+{
+    match finding {
+        Finding::NoGame => "no game",
+        Finding::Legal { .. } => "legal",
+        Finding::Illegal { .. } => "illegal",
+        Finding::Unsettled => "unsettled",
+    }
 }
 
-/// A wrong number. A last total has no event.
-#[derive(Drop, Serialize)]
-struct WrongObject {
-    wrong: &'static str,
-    line: Option<u32>,
-    player: u32,
-    nick: String,
-    kind: Option<&'static str>,
-    place: Option<String>,
-    direction: Option<&'static str>,
-    text: Option<String>,
+/// The line of the fault; null if the record is not illegal.
+fn line_tree(finding: &Finding) -> Tree
+    ensures { view result ≡ finding_line finding.now }
+{
+    match finding {
+        Finding::Illegal { line, .. } => count_tree(*line),
+        Finding::NoGame | Finding::Legal { .. } | Finding::Unsettled => null_tree(),
+    }
+}
+
+/// The fault; null if the record is not illegal.
+fn fault_tree(alloc: Global, finding: &Finding) -> Result<Tree, AllocError>
+    ensures { IfOk result (λ tree. view tree ≡ finding_fault finding.now) }
+{
+    match finding {
+        Finding::Illegal { fault, .. } => game_fault_tree(alloc, fault),
+        Finding::NoGame | Finding::Legal { .. } | Finding::Unsettled => Ok(null_tree()),
+    }
+}
+
+/// Whether a legal game has ended; null if the record is not legal.
+fn ending_tree(finding: &Finding) -> Tree
+    ensures { view result ≡ finding_ending finding.now }
+{
+    match finding {
+        Finding::Legal { complete } => name_tree(ending_name(*complete)),
+        Finding::NoGame | Finding::Illegal { .. } | Finding::Unsettled => null_tree(),
+    }
+}
+
+/// Who is ahead; null if the rules do not allow each event of the corrected record, or if it has none.
+fn ahead_tree(alloc: Global, finding: &Finding, standing: &Standing) -> Result<Tree, AllocError>
+    ensures { IfOk result (λ tree. view tree ≡ ahead_value finding.now standing.now) }
+{
+    match finding {
+        Finding::NoGame | Finding::Illegal { .. } => Ok(null_tree()),
+        Finding::Legal { .. } | Finding::Unsettled => standing_tree(alloc, standing),
+    }
+}
+
+/// The line of an event, if there is one.
+fn event_line(event: Option<&Event>) -> Tree
+    ensures { view result ≡ line_value (option_copied event.entry) }
+{
+    match event {
+        Some(event) => count_tree(event.line),
+        None => null_tree(),
+    }
+}
+
+/// The kind of an event, if there is one.
+fn event_kind(event: Option<&Event>) -> Tree
+    ensures { view result ≡ kind_value (option_copied event.entry) }
+{
+    match event {
+        Some(event) => name_tree(kind_name(&event.kind)),
+        None => null_tree(),
+    }
+}
+
+/// Where the play of an event begins, if it is one.
+fn event_place(alloc: Global, event: Option<&Event>) -> Result<Tree, AllocError>
+    ensures { IfOk result (λ tree. view tree ≡ place_value (option_copied event.entry)) }
+{
+    match event {
+        Some(event) => kind_place_tree(alloc, &event.kind),
+        None => Ok(null_tree()),
+    }
+}
+
+/// The direction of the play of an event, if it is one.
+fn event_direction(event: Option<&Event>) -> Tree
+    ensures { view result ≡ direction_value (option_copied event.entry) }
+{
+    match event {
+        Some(event) => kind_direction_tree(&event.kind),
+        None => null_tree(),
+    }
+}
+
+/// The text of the play of an event, if it is one.
+fn event_symbols(alloc: Global, event: Option<&Event>) -> Result<Tree, AllocError>
+    ensures { IfOk result (λ tree. view tree ≡ symbols_value (option_copied event.entry)) }
+{
+    match event {
+        Some(event) => kind_symbols_tree(alloc, &event.kind),
+        None => Ok(null_tree()),
+    }
+}
+
+/// A wrong number of a player, with its event if it has one.
+fn wrong_of(
+    alloc: Global,
+    game: &Record,
+    what: &'static str,
+    event: Option<&Event>,
+    player: Seat,
     written: i32,
     sum: Option<i32>,
     right: Option<i32>,
-}
-
-/// Who is ahead; no player if both have the same total.
-#[derive(Drop, Serialize)]
-struct AheadObject {
-    player: Option<u32>,
-    by: i32,
-}
-
-/// An audit.
-#[derive(Drop, Serialize)]
-struct AuditObject {
-    verdict: &'static str,
-    line: Option<u32>,
-    fault: Option<FaultObject>,
-    ending: Option<&'static str>,
-    players: Vec<PlayerObject>,
-    wrong: Vec<WrongObject>,
-    ahead: Option<AheadObject>,
-    ahead_by_sheet: Option<AheadObject>,
-    amount: Option<RepairObject>,
-    unread_lines: Vec<UnreadObject>,
-}
-
-/// Who is ahead, if the rules allow each event of the corrected record.
-fn ahead_object(finding: &Finding, standing: &Standing) -> Option<AheadObject> {
-    match (finding, standing) {
-        (Finding::NoGame | Finding::Illegal { .. }, _) => None,
-        (_, Standing::Even) => Some(AheadObject {
-            player: None,
-            by: 0,
-        }),
-        (_, Standing::Ahead(player, by)) => Some(AheadObject {
-            player: Some(number_of(*player)),
-            by: *by,
-        }),
-    }
-}
-
-/// What is found of the corrected record.
-fn finding_fields(alloc: Global, finding: &Finding) -> Result<VerdictFields, AllocError> {
-    match finding {
-        Finding::NoGame => Ok(VerdictFields {
-            verdict: "no game",
-            ending: None,
-            line: None,
-            fault: None,
-        }),
-        Finding::Legal { complete } => verdict_fields(
-            alloc,
-            &Verdict::Legal {
-                complete: *complete,
-            },
-        ),
-        Finding::Illegal { line, fault } => verdict_fields(
-            alloc,
-            &Verdict::Illegal {
-                line: *line,
-                fault: *fault,
-            },
-        ),
-        Finding::Unsettled => verdict_fields(alloc, &Verdict::Unsettled),
-    }
-}
-
-/// A player.
-fn player_object(alloc: Global, player: &Player) -> Result<PlayerObject, AllocError> {
-    Ok(PlayerObject {
-        nick: text_unless_empty(alloc, player.nick.as_bytes())?,
-        name: text_unless_empty(alloc, player.full.as_bytes())?,
-    })
-}
-
-/// The two players.
-fn player_objects(alloc: Global, record: &Record) -> Result<Vec<PlayerObject>, AllocError> {
-    let mut players = Vec::new(alloc);
-    players.push(player_object(alloc, &record.players.first)?)?;
-    players.push(player_object(alloc, &record.players.second)?)?;
-    Ok(players)
-}
-
-impl WrongObject {
-    /// A wrong number of a player.
-    fn of_player(
-        alloc: Global,
-        record: &Record,
-        player: Seat,
-        wrong: &'static str,
-    ) -> Result<WrongObject, AllocError> {
-        Ok(WrongObject {
-            wrong,
-            line: None,
-            player: number_of(player),
-            nick: text_of(alloc, record.players.of(player).nick.as_bytes())?,
-            kind: None,
-            place: None,
-            direction: None,
-            text: None,
-            written: 0,
-            sum: None,
-            right: None,
-        })
-    }
-
-    /// Takes what the line of its event says.
-    fn take_event(&mut self, alloc: Global, event: &Event) -> Result<(), AllocError> {
-        self.line = Some(event.line);
-        self.kind = Some(kind_name(&event.kind));
-        if let EventKind::Play { at, dir, word } = &event.kind {
-            let fields = play_fields(alloc, *at, *dir, word.as_slice())?;
-            self.place = Some(fields.place);
-            self.direction = Some(fields.direction);
-            self.text = Some(fields.text);
-        }
-        Ok(())
-    }
-
-    /// Takes the event at a place of the record.
-    fn take_place(
-        &mut self,
-        alloc: Global,
-        record: &Record,
-        place: usize,
-    ) -> Result<(), AllocError> {
-        match record.events.as_slice().get(place) {
-            Some(event) => self.take_event(alloc, event),
-            None => Ok(()),
-        }
-    }
+) -> Result<Tree, AllocError>
+    ensures { IfOk result (λ tree. view tree ≡ wrong_of game.now what.now (option_copied event.entry) player written sum right) }
+{
+    let nick = text_tree(alloc, game.players.of(player).nick.as_bytes())?;
+    let place = event_place(alloc, event)?;
+    let symbols = event_symbols(alloc, event)?;
+    let fields = vec![in alloc;
+        ("wrong", name_tree(what)),
+        ("line", event_line(event)),
+        ("player", count_tree(number_of(player))),
+        ("nick", nick),
+        ("kind", event_kind(event)),
+        ("place", place),
+        ("direction", event_direction(event)),
+        ("text", symbols),
+        ("written", integer_tree(written)),
+        ("sum", integer_or_null(sum)),
+        ("right", integer_or_null(right)),
+    ]?;
+    Ok(object(fields))
 }
 
 /// A wrong number.
-fn wrong_object(
-    alloc: Global,
-    record: &Record,
-    number: &ToldNumber,
-) -> Result<WrongObject, AllocError> {
+fn wrong_tree(alloc: Global, game: &Record, number: &ToldNumber) -> Result<Tree, AllocError>
+    ensures { IfOk result (λ tree. view tree ≡ wrong_object game.now number.now) }
+{
+    let events = game.events.as_slice();
     match number {
         ToldNumber::Score {
             place,
@@ -181,11 +168,17 @@ fn wrong_object(
             right,
             ..
         } => {
-            let mut object = WrongObject::of_player(alloc, record, *player, "score")?;
-            object.take_place(alloc, record, *place)?;
-            object.written = *written;
-            object.right = Some(*right);
-            Ok(object)
+            let event = item_at(events, *place);
+            wrong_of(
+                alloc,
+                game,
+                "score",
+                event,
+                *player,
+                *written,
+                None,
+                Some(*right),
+            )
         }
         ToldNumber::Sum {
             place,
@@ -195,66 +188,96 @@ fn wrong_object(
             right,
             ..
         } => {
-            let mut object = WrongObject::of_player(alloc, record, *player, "sum")?;
-            object.take_place(alloc, record, *place)?;
-            object.written = *written;
-            object.sum = Some(*sum);
-            object.right = *right;
-            Ok(object)
+            let event = item_at(events, *place);
+            wrong_of(
+                alloc,
+                game,
+                "sum",
+                event,
+                *player,
+                *written,
+                Some(*sum),
+                *right,
+            )
         }
         ToldNumber::Total {
             player,
             written,
             right,
-        } => {
-            let mut object = WrongObject::of_player(alloc, record, *player, "last total")?;
-            object.written = *written;
-            object.right = Some(*right);
-            Ok(object)
-        }
+        } => wrong_of(
+            alloc,
+            game,
+            "last total",
+            None,
+            *player,
+            *written,
+            None,
+            Some(*right),
+        ),
     }
 }
 
 /// The wrong numbers.
-fn wrong_objects(alloc: Global, answer: &AuditAnswer) -> Result<Vec<WrongObject>, AllocError> {
-    let mut objects = Vec::new(alloc);
-    for number in answer.numbers.as_slice() {
-        objects.push(wrong_object(alloc, &answer.audit.entry.record, number)?)?;
+fn wrong_array(alloc: Global, game: &Record, numbers: &[ToldNumber]) -> Result<Tree, AllocError>
+    ensures { IfOk result (λ tree. view tree ≡ array_of (map (wrong_object game.now) numbers.now)) }
+{
+    let mut trees = Vec::new(alloc);
+    for number in numbers {
+        trees.push(wrong_tree(alloc, game, number)?)?;
     }
-    Ok(objects)
+    Ok(array(trees))
 }
 
-/// A bonus or a penalty that would explain the numbers, if there is one.
-fn amount_object(
-    alloc: Global,
-    amount: &Option<SheetAmount>,
-) -> Result<Option<RepairObject>, AllocError> {
+/// A bonus or a penalty that would explain the numbers; null if there is none.
+fn amount_tree(alloc: Global, amount: &Option<SheetAmount>) -> Result<Tree, AllocError>
+    ensures { IfOk result (λ tree. view tree ≡ or_null (option_map amount_object amount.now)) }
+{
     match amount {
-        None => Ok(None),
-        Some(amount) => Ok(Some(single_object(alloc, &amount.record, &amount.repair)?)),
+        Some(amount) => single_tree(alloc, &amount.record, &amount.repair),
+        None => Ok(null_tree()),
     }
 }
 
-/// Appends an audit: the verdict of the corrected record, the players, each number that is wrong, who is ahead, a bonus or a penalty that
-/// would explain the numbers, and the lines that are not read.
-pub fn push_audit_answer(
+/// An audit, as the fields of an object: the verdict of the corrected record, the players, each number that is wrong, who is ahead, a bonus or a penalty
+/// that would explain the numbers, and the lines that are not read.
+pub fn audit_fields(
     alloc: Global,
-    text: &mut Vec<u8>,
     answer: &AuditAnswer,
     unread: &[UnreadLine],
-) -> Result<(), AllocError> {
-    let fields = finding_fields(alloc, &answer.audit.entry.finding)?;
-    let object = AuditObject {
-        verdict: fields.verdict,
-        line: fields.line,
-        fault: fields.fault,
-        ending: fields.ending,
-        players: player_objects(alloc, &answer.audit.entry.record)?,
-        wrong: wrong_objects(alloc, answer)?,
-        ahead: ahead_object(&answer.audit.entry.finding, &answer.audit.ahead),
-        ahead_by_sheet: ahead_object(&answer.audit.entry.finding, &answer.audit.written),
-        amount: amount_object(alloc, &answer.amount)?,
-        unread_lines: unread_objects(alloc, unread)?,
-    };
-    push_object(alloc, text, &object)
+) -> Result<Vec<(&'static str, Tree)>, AllocError>
+    ensures { IfOk result (λ fields. fields_view fields.items ≡ audit_fields answer.now unread.now) }
+{
+    let audit = &answer.audit;
+    let finding = &audit.entry.finding;
+    let fault = fault_tree(alloc, finding)?;
+    let players = players_array(alloc, &audit.entry.record.players)?;
+    let wrong = wrong_array(alloc, &audit.entry.record, answer.numbers.as_slice())?;
+    let ahead = ahead_tree(alloc, finding, &audit.ahead)?;
+    let by_sheet = ahead_tree(alloc, finding, &audit.written)?;
+    let amount = amount_tree(alloc, &answer.amount)?;
+    let unread = unread_array(alloc, unread)?;
+    let fields = vec![in alloc;
+        ("verdict", name_tree(finding_name(finding))),
+        ("line", line_tree(finding)),
+        ("fault", fault),
+        ("ending", ending_tree(finding)),
+        ("players", players),
+        ("wrong", wrong),
+        ("ahead", ahead),
+        ("ahead_by_sheet", by_sheet),
+        ("amount", amount),
+        ("unread_lines", unread),
+    ]?;
+    Ok(fields)
+}
+
+/// An audit.
+pub fn audit_tree(
+    alloc: Global,
+    answer: &AuditAnswer,
+    unread: &[UnreadLine],
+) -> Result<Tree, AllocError>
+    ensures { IfOk result (λ tree. view tree ≡ audit_object answer.now unread.now) }
+{
+    Ok(object(audit_fields(alloc, answer, unread)?))
 }

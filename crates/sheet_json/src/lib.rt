@@ -1,8 +1,10 @@
-//! An audit and a board as JSON, made only from their values.
+//! An audit, a board and the ruling on words as trees: the contract of each call says that its tree is exactly the object that `specs/` defines for its value.
 #![tactic(auto)]
 
 mod audits;
 mod boards;
+mod rulings;
 
-pub use audits::push_audit_answer;
-pub use boards::push_shown_board;
+pub use audits::{audit_fields, audit_tree};
+pub use boards::board_tree;
+pub use rulings::{no_word_tree, ruling_tree};

@@ -1,129 +1,116 @@
-//! Facts about a play that is taken back or challenged, as objects.
+//! Facts about a play that is taken back or challenged, as trees.
+ghost use Rattle.std.specs.Prelude.{◌≡◌, IfOk};
+ghost use Rattle.json_trees.specs.Trees.{view};
+ghost use Rattle.explanation_json.specs.Scores.{bonus_object, challenge_object, no_play_object, others_object, play_words_object};
 
-use crate::fact_parts::{numbers_of, words_of};
+use crate::fact_parts::{numbers_tree, words_tree};
 use answer_json::number_of;
 use event_facts::{ChallengeFact, Spelled};
 use gcg_read::Seat;
-use serde::Serialize;
+use json_trees::{Tree, bool_tree, count_tree, integer_tree, name_tree, object, size_tree};
 use std::alloc::{AllocError, Global};
 
-/// A fact about a play that is taken back or challenged: its name, and the fields that it has.
-#[derive(Drop, Serialize)]
-pub struct ChallengeObject {
+/// A fact of this name about the words of the play on a line.
+fn play_words(
+    alloc: Global,
     name: &'static str,
-    #[serde(skip_serializing_if = "Option::is_none")]
-    line: Option<u32>,
-    #[serde(skip_serializing_if = "Option::is_none")]
-    player: Option<u32>,
-    #[serde(skip_serializing_if = "Option::is_none")]
-    other: Option<u32>,
-    #[serde(skip_serializing_if = "Option::is_none")]
-    written: Option<i32>,
-    #[serde(skip_serializing_if = "Option::is_none")]
-    first_event: Option<bool>,
-    #[serde(skip_serializing_if = "Option::is_none")]
-    limit: Option<usize>,
-    #[serde(skip_serializing_if = "Option::is_none")]
-    listed: Option<usize>,
-    #[serde(skip_serializing_if = "Option::is_none")]
-    amounts: Option<Vec<usize>>,
-    #[serde(skip_serializing_if = "Option::is_none")]
-    words: Option<Vec<String>>,
+    line: u32,
+    words: &[Spelled],
+) -> Result<Tree, AllocError>
+    ensures { IfOk result (λ tree. view tree ≡ play_words_object name.now line words.now) }
+{
+    let words = words_tree(alloc, words)?;
+    let fields = vec![in alloc;
+        ("name", name_tree(name)),
+        ("line", count_tree(line)),
+        ("words", words),
+    ]?;
+    Ok(object(fields))
 }
 
-impl ChallengeObject {
-    /// A fact of this name that has no field yet.
-    fn named(name: &'static str) -> ChallengeObject {
-        ChallengeObject {
-            name,
-            line: None,
-            player: None,
-            other: None,
-            written: None,
-            first_event: None,
-            limit: None,
-            listed: None,
-            amounts: None,
-            words: None,
+/// A fact of this name about the other player's play on a line.
+fn others_fact(
+    alloc: Global,
+    name: &'static str,
+    line: u32,
+    player: Seat,
+    other: Seat,
+) -> Result<Tree, AllocError>
+    ensures { IfOk result (λ tree. view tree ≡ others_object name.now line player other) }
+{
+    let fields = vec![in alloc;
+        ("name", name_tree(name)),
+        ("line", count_tree(line)),
+        ("player", count_tree(number_of(player))),
+        ("other", count_tree(number_of(other))),
+    ]?;
+    Ok(object(fields))
+}
+
+/// A fact of this name: that there is no play before the event.
+fn no_play(alloc: Global, name: &'static str, is_first: bool) -> Result<Tree, AllocError>
+    ensures { IfOk result (λ tree. view tree ≡ no_play_object name.now is_first) }
+{
+    let fields = vec![in alloc;
+        ("name", name_tree(name)),
+        ("first_event", bool_tree(is_first)),
+    ]?;
+    Ok(object(fields))
+}
+
+/// Which bonus a challenge gives.
+fn bonus(
+    alloc: Global,
+    unit: usize,
+    listed: usize,
+    amounts: &[usize],
+    written: i32,
+) -> Result<Tree, AllocError>
+    ensures { IfOk result (λ tree. view tree ≡ bonus_object unit listed amounts.now written) }
+{
+    let amounts = numbers_tree(alloc, amounts)?;
+    let fields = vec![in alloc;
+        ("name", name_tree("Bonus")),
+        ("written", integer_tree(written)),
+        ("limit", size_tree(unit)),
+        ("listed", size_tree(listed)),
+        ("amounts", amounts),
+    ]?;
+    Ok(object(fields))
+}
+
+/// A fact.
+pub fn challenge_tree(alloc: Global, fact: &ChallengeFact) -> Result<Tree, AllocError>
+    ensures { IfOk result (λ tree. view tree ≡ challenge_object fact.now) }
+{
+    match fact {
+        ChallengeFact::PlayStands { line, words } => {
+            play_words(alloc, "PlayStands", *line, words.as_slice())
         }
-    }
-
-    /// A fact of this name about the words of the play on a line.
-    fn of_words(
-        alloc: Global,
-        name: &'static str,
-        line: u32,
-        words: &[Spelled],
-    ) -> Result<ChallengeObject, AllocError> {
-        let mut object = ChallengeObject::named(name);
-        object.line = Some(line);
-        object.words = Some(words_of(alloc, words)?);
-        Ok(object)
-    }
-
-    /// A fact of this name about the other player's play on a line.
-    fn of_players(name: &'static str, line: u32, player: Seat, other: Seat) -> ChallengeObject {
-        let mut object = ChallengeObject::named(name);
-        object.line = Some(line);
-        object.player = Some(number_of(player));
-        object.other = Some(number_of(other));
-        object
-    }
-
-    /// A fact of this name: that there is no play before the event.
-    fn of_no_play(name: &'static str, is_first: bool) -> ChallengeObject {
-        let mut object = ChallengeObject::named(name);
-        object.first_event = Some(is_first);
-        object
-    }
-
-    /// Which bonus a challenge gives.
-    fn of_bonus(
-        alloc: Global,
-        unit: usize,
-        listed: usize,
-        amounts: &[usize],
-        written: i32,
-    ) -> Result<ChallengeObject, AllocError> {
-        let mut object = ChallengeObject::named("Bonus");
-        object.limit = Some(unit);
-        object.listed = Some(listed);
-        object.amounts = Some(numbers_of(alloc, amounts)?);
-        object.written = Some(written);
-        Ok(object)
-    }
-
-    /// A fact.
-    pub fn of(alloc: Global, fact: &ChallengeFact) -> Result<ChallengeObject, AllocError> {
-        match fact {
-            ChallengeFact::PlayStands { line, words } => {
-                ChallengeObject::of_words(alloc, "PlayStands", *line, words.as_slice())
-            }
-            ChallengeFact::NoWordListed { line, words } => {
-                ChallengeObject::of_words(alloc, "NoWordListed", *line, words.as_slice())
-            }
-            ChallengeFact::OthersPlay {
-                line,
-                player,
-                other,
-            } => Ok(ChallengeObject::of_players("OthersPlay", *line, *player, *other)),
-            ChallengeFact::OthersBonus {
-                line,
-                player,
-                other,
-            } => Ok(ChallengeObject::of_players("OthersBonus", *line, *player, *other)),
-            ChallengeFact::NothingToTakeBack { is_first } => {
-                Ok(ChallengeObject::of_no_play("NothingToTakeBack", *is_first))
-            }
-            ChallengeFact::NothingToChallenge { is_first } => {
-                Ok(ChallengeObject::of_no_play("NothingToChallenge", *is_first))
-            }
-            ChallengeFact::Bonus {
-                unit,
-                listed,
-                amounts,
-                written,
-            } => ChallengeObject::of_bonus(alloc, *unit, *listed, amounts.as_slice(), *written),
+        ChallengeFact::NoWordListed { line, words } => {
+            play_words(alloc, "NoWordListed", *line, words.as_slice())
         }
+        ChallengeFact::OthersPlay {
+            line,
+            player,
+            other,
+        } => others_fact(alloc, "OthersPlay", *line, *player, *other),
+        ChallengeFact::OthersBonus {
+            line,
+            player,
+            other,
+        } => others_fact(alloc, "OthersBonus", *line, *player, *other),
+        ChallengeFact::NothingToTakeBack { is_first } => {
+            no_play(alloc, "NothingToTakeBack", *is_first)
+        }
+        ChallengeFact::NothingToChallenge { is_first } => {
+            no_play(alloc, "NothingToChallenge", *is_first)
+        }
+        ChallengeFact::Bonus {
+            unit,
+            listed,
+            amounts,
+            written,
+        } => bonus(alloc, *unit, *listed, amounts.as_slice(), *written),
     }
 }

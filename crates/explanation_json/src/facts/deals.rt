@@ -1,62 +1,47 @@
-//! Facts about deals, as objects.
+//! Facts about deals, as trees.
+ghost use Rattle.std.specs.Prelude.{◌≡◌, IfOk, List, option_map};
+ghost use Rattle.json_trees.specs.Trees.{view};
+ghost use Rattle.explanation_json.specs.Lines.{clash_value};
+ghost use Rattle.explanation_json.specs.Racks.{deal_object, no_deal_object};
 
-use crate::fact_lines::{LineObject, clash_lines, exchange_lines};
+use crate::fact_lines::{clash_lines, exchange_lines};
+use crate::facts::rulings::line_fact;
 use event_facts::{ClashLine, DealFact, ExchangeLine};
-use serde::Serialize;
+use json_trees::{Tree, name_tree, object, with_field_if};
 use std::alloc::{AllocError, Global};
 
-/// A fact about deals: its name, and the fields that it has.
-#[derive(Drop, Serialize)]
-pub struct DealObject {
-    name: &'static str,
-    #[serde(skip_serializing_if = "Option::is_none")]
-    line: Option<u32>,
-    #[serde(skip_serializing_if = "Option::is_none")]
-    clash: Option<Vec<LineObject>>,
-    #[serde(skip_serializing_if = "Option::is_none")]
-    lines: Option<Vec<LineObject>>,
+/// The tiles that cannot be together, if a proof was found.
+fn clash_tree(alloc: Global, clash: &Option<Vec<ClashLine>>) -> Result<Option<Tree>, AllocError>
+    ensures { IfOk result (λ tree. option_map view tree ≡ option_map clash_value (option_map (λ lines. lines.items) clash.now)) }
+{
+    match clash {
+        Some(lines) => Ok(Some(clash_lines(alloc, lines.as_slice())?)),
+        None => Ok(None),
+    }
 }
 
-impl DealObject {
-    /// A fact of this name that has no field yet.
-    fn named(name: &'static str) -> DealObject {
-        DealObject {
-            name,
-            line: None,
-            clash: None,
-            lines: None,
-        }
-    }
+/// That no deal gives the racks.
+fn no_deal(
+    alloc: Global,
+    clash: &Option<Vec<ClashLine>>,
+    exchanges: &[ExchangeLine],
+) -> Result<Tree, AllocError>
+    ensures { IfOk result (λ tree. view tree ≡ no_deal_object (option_map (λ lines. lines.items) clash.now) exchanges.now) }
+{
+    let clash = clash_tree(alloc, clash)?;
+    let exchanges = exchange_lines(alloc, exchanges)?;
+    let fields = vec![in alloc; ("name", name_tree("NoDeal"))]?;
+    let fields = with_field_if(fields, "clash", clash)?;
+    let fields = with_field_if(fields, "lines", Some(exchanges))?;
+    Ok(object(fields))
+}
 
-    /// Up to which line a deal gives the racks.
-    fn of_line(line: u32) -> DealObject {
-        let mut object = DealObject::named("DealtTo");
-        object.line = Some(line);
-        object
-    }
-
-    /// That no deal gives the racks.
-    fn of_none(
-        alloc: Global,
-        clash: Option<&[ClashLine]>,
-        exchanges: &[ExchangeLine],
-    ) -> Result<DealObject, AllocError> {
-        let mut object = DealObject::named("NoDeal");
-        if let Some(lines) = clash {
-            object.clash = Some(clash_lines(alloc, lines)?);
-        }
-        object.lines = Some(exchange_lines(alloc, exchanges)?);
-        Ok(object)
-    }
-
-    /// A fact.
-    pub fn of(alloc: Global, fact: &DealFact) -> Result<DealObject, AllocError> {
-        match fact {
-            DealFact::DealtTo { line } => Ok(DealObject::of_line(*line)),
-            DealFact::NoDeal { clash, exchanges } => {
-                let lines = clash.as_ref().map(|lines| lines.as_slice());
-                DealObject::of_none(alloc, lines, exchanges.as_slice())
-            }
-        }
+/// A fact.
+pub fn deal_tree(alloc: Global, fact: &DealFact) -> Result<Tree, AllocError>
+    ensures { IfOk result (λ tree. view tree ≡ deal_object fact.now) }
+{
+    match fact {
+        DealFact::DealtTo { line } => line_fact(alloc, "DealtTo", *line),
+        DealFact::NoDeal { clash, exchanges } => no_deal(alloc, clash, exchanges.as_slice()),
     }
 }

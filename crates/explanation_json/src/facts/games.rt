@@ -1,99 +1,94 @@
-//! Facts about a record as a whole, as objects.
+//! Facts about a record as a whole, as trees.
+ghost use Rattle.std.specs.Prelude.{◌≡◌, IfOk, map, option_map};
+ghost use Rattle.json_trees.specs.Trees.{view};
+ghost use Rattle.json_trees.specs.Values.{array_of};
+ghost use Rattle.explanation_json.specs.Games.{game_object, hidden_object, parts_if, plays_object, unlisted_object};
 
-use crate::fact_lines::{LineObject, part_lines};
-use crate::fact_parts::{lines_of, words_of};
+use crate::fact_lines::part_lines;
+use crate::fact_parts::{bare_tree, lines_tree, words_tree};
 use answer_json::number_of;
 use event_facts::{GameFact, RackPart, UnlistedPlay};
-use serde::Serialize;
+use json_trees::{Tree, array, count_tree, name_tree, object, size_tree, with_field_if};
 use std::alloc::{AllocError, Global};
 
 /// A play that stands with words that are not in the word list.
-#[derive(Drop, Serialize)]
-struct UnlistedObject {
-    line: u32,
-    player: u32,
-    words: Vec<String>,
+fn unlisted_tree(alloc: Global, play: &UnlistedPlay) -> Result<Tree, AllocError>
+    ensures { IfOk result (λ tree. view tree ≡ unlisted_object play.now) }
+{
+    let words = words_tree(alloc, play.words.as_slice())?;
+    let fields = vec![in alloc;
+        ("line", count_tree(play.line)),
+        ("player", count_tree(number_of(play.player))),
+        ("words", words),
+    ]?;
+    Ok(object(fields))
 }
 
 /// Plays that stand with words that are not in the word list.
-fn plays_of(alloc: Global, plays: &[UnlistedPlay]) -> Result<Vec<UnlistedObject>, AllocError> {
-    let mut objects = Vec::new(alloc);
+fn unlisted_array(alloc: Global, plays: &[UnlistedPlay]) -> Result<Tree, AllocError>
+    ensures { IfOk result (λ tree. view tree ≡ array_of (map unlisted_object plays.now)) }
+{
+    let mut trees = Vec::new(alloc);
     for play in plays {
-        objects.push(UnlistedObject {
-            line: play.line,
-            player: number_of(play.player),
-            words: words_of(alloc, play.words.as_slice())?,
-        })?;
+        trees.push(unlisted_tree(alloc, play)?)?;
     }
-    Ok(objects)
+    Ok(array(trees))
 }
 
-/// A fact about a record as a whole: its name, and the fields that it has.
-#[derive(Drop, Serialize)]
-pub struct GameObject {
-    name: &'static str,
-    #[serde(skip_serializing_if = "Option::is_none")]
-    number: Option<usize>,
-    #[serde(skip_serializing_if = "Option::is_none")]
-    limit: Option<usize>,
-    #[serde(skip_serializing_if = "Option::is_none")]
-    lines: Option<Vec<LineObject>>,
-    #[serde(skip_serializing_if = "Option::is_none")]
-    plays: Option<Vec<UnlistedObject>>,
-    #[serde(skip_serializing_if = "Option::is_none")]
-    on_lines: Option<Vec<u32>>,
+/// Which plays stand with words that are not in the word list.
+fn plays_fact(alloc: Global, plays: &[UnlistedPlay]) -> Result<Tree, AllocError>
+    ensures { IfOk result (λ tree. view tree ≡ plays_object plays.now) }
+{
+    let plays = unlisted_array(alloc, plays)?;
+    let fields = vec![in alloc; ("name", name_tree("Unlisted")), ("plays", plays)]?;
+    Ok(object(fields))
 }
 
-impl GameObject {
-    /// A fact of this name that has no field yet.
-    fn named(name: &'static str) -> GameObject {
-        GameObject {
-            name,
-            number: None,
-            limit: None,
-            lines: None,
-            plays: None,
-            on_lines: None,
-        }
+/// The turns of which only a part of the rack is shown, if there are any.
+fn parts_tree(alloc: Global, parts: &[RackPart]) -> Result<Option<Tree>, AllocError>
+    ensures { IfOk result (λ tree. option_map view tree ≡ parts_if parts.now) }
+{
+    match parts {
+        [] => Ok(None),
+        [_, ..] => Ok(Some(part_lines(alloc, parts)?)),
     }
+}
 
-    /// Which plays stand with words that are not in the word list.
-    fn of_plays(alloc: Global, plays: &[UnlistedPlay]) -> Result<GameObject, AllocError> {
-        let mut object = GameObject::named("Unlisted");
-        object.plays = Some(plays_of(alloc, plays)?);
-        Ok(object)
-    }
+/// On which turns no rack is shown, and on which only a part of it.
+fn hidden_fact(
+    alloc: Global,
+    lines: &[u32],
+    parts: &[RackPart],
+    turns: usize,
+) -> Result<Tree, AllocError>
+    ensures { IfOk result (λ tree. view tree ≡ hidden_object lines.now parts.now turns) }
+{
+    let parts = parts_tree(alloc, parts)?;
+    let on_lines = lines_tree(alloc, lines)?;
+    let fields = vec![in alloc;
+        ("name", name_tree("RacksHidden")),
+        ("number", size_tree(lines.len())),
+        ("limit", size_tree(turns)),
+    ]?;
+    let fields = with_field_if(fields, "lines", parts)?;
+    let fields = with_field_if(fields, "on_lines", Some(on_lines))?;
+    Ok(object(fields))
+}
 
-    /// On which turns no rack is shown, and on which only a part of it.
-    fn of_racks(
-        alloc: Global,
-        lines: &[u32],
-        parts: &[RackPart],
-        turns: usize,
-    ) -> Result<GameObject, AllocError> {
-        let mut object = GameObject::named("RacksHidden");
-        object.number = Some(lines.len());
-        object.limit = Some(turns);
-        object.on_lines = Some(lines_of(alloc, lines)?);
-        if !parts.is_empty() {
-            object.lines = Some(part_lines(alloc, parts)?);
-        }
-        Ok(object)
-    }
-
-    /// A fact.
-    pub fn of(alloc: Global, fact: &GameFact) -> Result<GameObject, AllocError> {
-        match fact {
-            GameFact::NoEvent => Ok(GameObject::named("NoEvent")),
-            GameFact::Legal => Ok(GameObject::named("Legal")),
-            GameFact::Unsettled => Ok(GameObject::named("Unsettled")),
-            GameFact::Unlisted { plays } => GameObject::of_plays(alloc, plays.as_slice()),
-            GameFact::OtherList => Ok(GameObject::named("OtherList")),
-            GameFact::RacksHidden {
-                lines,
-                parts,
-                turns,
-            } => GameObject::of_racks(alloc, lines.as_slice(), parts.as_slice(), *turns),
-        }
+/// A fact.
+pub fn game_tree(alloc: Global, fact: &GameFact) -> Result<Tree, AllocError>
+    ensures { IfOk result (λ tree. view tree ≡ game_object fact.now) }
+{
+    match fact {
+        GameFact::NoEvent => bare_tree(alloc, "NoEvent"),
+        GameFact::Legal => bare_tree(alloc, "Legal"),
+        GameFact::Unsettled => bare_tree(alloc, "Unsettled"),
+        GameFact::Unlisted { plays } => plays_fact(alloc, plays.as_slice()),
+        GameFact::OtherList => bare_tree(alloc, "OtherList"),
+        GameFact::RacksHidden {
+            lines,
+            parts,
+            turns,
+        } => hidden_fact(alloc, lines.as_slice(), parts.as_slice(), *turns),
     }
 }

@@ -1,86 +1,69 @@
-//! Facts about the order of lines, as objects.
+//! Facts about the order of lines, as trees.
+ghost use Rattle.std.specs.Prelude.{◌≡◌, IfOk};
+ghost use Rattle.json_trees.specs.Trees.{view};
+ghost use Rattle.explanation_json.specs.Turns.{missing_object, order_object, player_object, wrong_way_object};
 
-use crate::fact_parts::lines_of;
+use crate::fact_parts::lines_tree;
+use crate::facts::rulings::line_fact;
 use answer_json::number_of;
 use event_facts::OrderFact;
 use gcg_read::Seat;
-use serde::Serialize;
+use json_trees::{Tree, count_tree, integer_tree, name_tree, object};
 use std::alloc::{AllocError, Global};
 
-/// A fact about the order of lines: its name, and the fields that it has.
-#[derive(Drop, Serialize)]
-pub struct OrderObject {
-    name: &'static str,
-    #[serde(skip_serializing_if = "Option::is_none")]
-    line: Option<u32>,
-    #[serde(skip_serializing_if = "Option::is_none")]
-    player: Option<u32>,
-    #[serde(skip_serializing_if = "Option::is_none")]
-    score: Option<i32>,
-    #[serde(skip_serializing_if = "Option::is_none")]
-    on_lines: Option<Vec<u32>>,
+/// That a line and the next one are allowed the other way round.
+fn wrong_way(alloc: Global, line: u32, next: u32) -> Result<Tree, AllocError>
+    ensures { IfOk result (λ tree. view tree ≡ wrong_way_object line next) }
+{
+    let lines = lines_tree(alloc, &[line, next])?;
+    let fields = vec![in alloc; ("name", name_tree("WrongWay")), ("on_lines", lines)]?;
+    Ok(object(fields))
 }
 
-impl OrderObject {
-    /// A fact of this name that has no field yet.
-    fn named(name: &'static str) -> OrderObject {
-        OrderObject {
-            name,
-            line: None,
-            player: None,
-            score: None,
-            on_lines: None,
-        }
-    }
+/// That a line seems to be missing.
+fn missing(
+    alloc: Global,
+    player: Seat,
+    score: i32,
+    before: u32,
+    after: u32,
+) -> Result<Tree, AllocError>
+    ensures { IfOk result (λ tree. view tree ≡ missing_object player score before after) }
+{
+    let lines = lines_tree(alloc, &[before, after])?;
+    let fields = vec![in alloc;
+        ("name", name_tree("Missing")),
+        ("player", count_tree(number_of(player))),
+        ("score", integer_tree(score)),
+        ("on_lines", lines),
+    ]?;
+    Ok(object(fields))
+}
 
-    /// That the line before says the same.
-    fn of_line(line: u32) -> OrderObject {
-        let mut object = OrderObject::named("StandsTwice");
-        object.line = Some(line);
-        object
-    }
+/// A fact of this name about a player.
+fn player_fact(alloc: Global, name: &'static str, player: Seat) -> Result<Tree, AllocError>
+    ensures { IfOk result (λ tree. view tree ≡ player_object name.now player) }
+{
+    let fields = vec![in alloc;
+        ("name", name_tree(name)),
+        ("player", count_tree(number_of(player))),
+    ]?;
+    Ok(object(fields))
+}
 
-    /// That a line and the next one are allowed the other way round.
-    fn of_lines(alloc: Global, line: u32, next: u32) -> Result<OrderObject, AllocError> {
-        let mut object = OrderObject::named("WrongWay");
-        object.on_lines = Some(lines_of(alloc, &[line, next])?);
-        Ok(object)
-    }
-
-    /// That a line seems to be missing.
-    fn of_missing(
-        alloc: Global,
-        player: Seat,
-        score: i32,
-        before: u32,
-        after: u32,
-    ) -> Result<OrderObject, AllocError> {
-        let mut object = OrderObject::named("Missing");
-        object.player = Some(number_of(player));
-        object.score = Some(score);
-        object.on_lines = Some(lines_of(alloc, &[before, after])?);
-        Ok(object)
-    }
-
-    /// That an event is allowed as the other player's.
-    fn of_other(other: Seat) -> OrderObject {
-        let mut object = OrderObject::named("AllowedFor");
-        object.player = Some(number_of(other));
-        object
-    }
-
-    /// A fact.
-    pub fn of(alloc: Global, fact: &OrderFact) -> Result<OrderObject, AllocError> {
-        match fact {
-            OrderFact::StandsTwice { line } => Ok(OrderObject::of_line(*line)),
-            OrderFact::WrongWay { line, next } => OrderObject::of_lines(alloc, *line, *next),
-            OrderFact::Missing {
-                player,
-                score,
-                before,
-                after,
-            } => OrderObject::of_missing(alloc, *player, *score, *before, *after),
-            OrderFact::AllowedFor { other } => Ok(OrderObject::of_other(*other)),
-        }
+/// A fact.
+pub fn order_tree(alloc: Global, fact: &OrderFact) -> Result<Tree, AllocError>
+    ensures { IfOk result (λ tree. view tree ≡ order_object fact.now) }
+{
+    match fact {
+        OrderFact::StandsTwice { line } => line_fact(alloc, "StandsTwice", *line),
+        OrderFact::WrongWay { line, next } => wrong_way(alloc, *line, *next),
+        OrderFact::Missing {
+            player,
+            score,
+            before,
+            after,
+        } => missing(alloc, *player, *score, *before, *after),
+        OrderFact::AllowedFor { other } => player_fact(alloc, "AllowedFor", *other),
     }
 }

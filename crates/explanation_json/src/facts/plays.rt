@@ -1,127 +1,116 @@
-//! Facts about the text or the placement of a play, as objects.
+//! Facts about the text or the placement of a play, as trees.
+ghost use Rattle.std.specs.Prelude.{◌≡◌, IfOk};
+ghost use Rattle.json_trees.specs.Trees.{view};
+ghost use Rattle.explanation_json.specs.Plays.{end_object, letter_object, many_object, play_object, square_object, tile_object};
 
-use crate::squares::square_name;
-use answer_json::{direction_of, text_of};
+use crate::fact_parts::{bare_tree, byte_tree, square_tree};
+use answer_json::direction_of;
 use event_facts::PlayFact;
+use json_trees::{Tree, count_tree, name_tree, object, size_tree};
 use ref_board::{Dir, Square};
-use serde::Serialize;
 use std::alloc::{AllocError, Global};
 
-/// A fact about the text or the placement of a play: its name, and the fields that it has.
-#[derive(Drop, Serialize)]
-pub struct PlayObject {
-    name: &'static str,
-    #[serde(skip_serializing_if = "Option::is_none")]
-    square: Option<String>,
-    #[serde(skip_serializing_if = "Option::is_none")]
-    direction: Option<&'static str>,
-    #[serde(skip_serializing_if = "Option::is_none")]
-    letter: Option<String>,
-    #[serde(skip_serializing_if = "Option::is_none")]
-    tile: Option<String>,
-    #[serde(skip_serializing_if = "Option::is_none")]
-    number: Option<usize>,
-    #[serde(skip_serializing_if = "Option::is_none")]
-    limit: Option<usize>,
+/// That a play leaves the board.
+fn end_fact(
+    alloc: Global,
+    at: Square,
+    dir: Dir,
+    squares: usize,
+    room: usize,
+) -> Result<Tree, AllocError>
+    ensures { IfOk result (λ tree. view tree ≡ end_object at dir squares room) }
+{
+    let square = square_tree(alloc, at)?;
+    let fields = vec![in alloc;
+        ("name", name_tree("LeavesBoard")),
+        ("square", square),
+        ("direction", name_tree(direction_of(dir))),
+        ("number", size_tree(squares)),
+        ("limit", size_tree(room)),
+    ]?;
+    Ok(object(fields))
 }
 
-impl PlayObject {
-    /// A fact of this name that has no field yet.
-    fn named(name: &'static str) -> PlayObject {
-        PlayObject {
-            name,
-            square: None,
-            direction: None,
-            letter: None,
-            tile: None,
-            number: None,
-            limit: None,
-        }
-    }
+/// A fact of this name about a square.
+fn square_fact(alloc: Global, name: &'static str, square: Square) -> Result<Tree, AllocError>
+    ensures { IfOk result (λ tree. view tree ≡ square_object name.now square) }
+{
+    let square = square_tree(alloc, square)?;
+    let fields = vec![in alloc; ("name", name_tree(name)), ("square", square)]?;
+    Ok(object(fields))
+}
 
-    /// That a play leaves the board.
-    fn of_end(
-        alloc: Global,
-        at: Square,
-        dir: Dir,
-        squares: usize,
-        room: usize,
-    ) -> Result<PlayObject, AllocError> {
-        let mut object = PlayObject::named("LeavesBoard");
-        object.square = Some(square_name(alloc, at)?);
-        object.direction = Some(direction_of(dir));
-        object.number = Some(squares);
-        object.limit = Some(room);
-        Ok(object)
-    }
+/// A fact of this name about the tile on a square.
+fn tile_fact(
+    alloc: Global,
+    name: &'static str,
+    square: Square,
+    shown: u8,
+) -> Result<Tree, AllocError>
+    ensures { IfOk result (λ tree. view tree ≡ tile_object name.now square shown) }
+{
+    let square = square_tree(alloc, square)?;
+    let shown = byte_tree(alloc, shown)?;
+    let fields = vec![in alloc;
+        ("name", name_tree(name)),
+        ("square", square),
+        ("tile", shown),
+    ]?;
+    Ok(object(fields))
+}
 
-    /// That a play has a dot on an empty square.
-    fn of_dot(alloc: Global, square: Square) -> Result<PlayObject, AllocError> {
-        let mut object = PlayObject::named("DotOnEmpty");
-        object.square = Some(square_name(alloc, square)?);
-        Ok(object)
-    }
+/// That a play has another letter than the tile on a square.
+fn letter_fact(alloc: Global, square: Square, written: u8, shown: u8) -> Result<Tree, AllocError>
+    ensures { IfOk result (λ tree. view tree ≡ letter_object square written shown) }
+{
+    let square = square_tree(alloc, square)?;
+    let written = byte_tree(alloc, written)?;
+    let shown = byte_tree(alloc, shown)?;
+    let fields = vec![in alloc;
+        ("name", name_tree("OtherLetter")),
+        ("square", square),
+        ("letter", written),
+        ("tile", shown),
+    ]?;
+    Ok(object(fields))
+}
 
-    /// A fact of this name about the tile on a square.
-    fn of_tile(
-        alloc: Global,
-        name: &'static str,
-        square: Square,
-        shown: u8,
-    ) -> Result<PlayObject, AllocError> {
-        let mut object = PlayObject::named(name);
-        object.square = Some(square_name(alloc, square)?);
-        object.tile = Some(text_of(alloc, &[shown])?);
-        Ok(object)
-    }
+/// That a play puts down more tiles than a rack has.
+fn many_fact(alloc: Global, tiles: usize) -> Result<Tree, AllocError>
+    ensures { IfOk result (λ tree. view tree ≡ many_object tiles) }
+{
+    let fields = vec![in alloc;
+        ("name", name_tree("ManyTiles")),
+        ("number", size_tree(tiles)),
+        ("limit", count_tree(7)),
+    ]?;
+    Ok(object(fields))
+}
 
-    /// That a play has another letter than the tile on a square.
-    fn of_letter(
-        alloc: Global,
-        square: Square,
-        written: u8,
-        shown: u8,
-    ) -> Result<PlayObject, AllocError> {
-        let mut object = PlayObject::of_tile(alloc, "OtherLetter", square, shown)?;
-        object.letter = Some(text_of(alloc, &[written])?);
-        Ok(object)
-    }
-
-    /// That a play puts down more tiles than a rack has.
-    fn of_many(tiles: usize) -> PlayObject {
-        let mut object = PlayObject::named("ManyTiles");
-        object.number = Some(tiles);
-        object.limit = Some(7);
-        object
-    }
-
-    /// A fact.
-    pub fn of(alloc: Global, fact: &PlayFact) -> Result<PlayObject, AllocError> {
-        match fact {
-            PlayFact::LeavesBoard {
-                at,
-                dir,
-                squares,
-                room,
-            } => PlayObject::of_end(alloc, *at, *dir, *squares, *room),
-            PlayFact::DotOnEmpty { square } => PlayObject::of_dot(alloc, *square),
-            PlayFact::OtherLetter {
-                square,
-                written,
-                shown,
-            } => PlayObject::of_letter(alloc, *square, *written, *shown),
-            PlayFact::NoNewTile => Ok(PlayObject::named("NoNewTile")),
-            PlayFact::ManyTiles { tiles } => Ok(PlayObject::of_many(*tiles)),
-            PlayFact::TileBefore { square, letter } => {
-                PlayObject::of_tile(alloc, "TileBefore", *square, *letter)
-            }
-            PlayFact::TileAfter { square, letter } => {
-                PlayObject::of_tile(alloc, "TileAfter", *square, *letter)
-            }
-            PlayFact::NotWhole => Ok(PlayObject::named("NotWhole")),
-            PlayFact::MissesCentre => Ok(PlayObject::named("MissesCentre")),
-            PlayFact::TooShort => Ok(PlayObject::named("TooShort")),
-            PlayFact::Apart => Ok(PlayObject::named("Apart")),
-        }
+/// A fact.
+pub fn play_tree(alloc: Global, fact: &PlayFact) -> Result<Tree, AllocError>
+    ensures { IfOk result (λ tree. view tree ≡ play_object fact.now) }
+{
+    match fact {
+        PlayFact::LeavesBoard {
+            at,
+            dir,
+            squares,
+            room,
+        } => end_fact(alloc, *at, *dir, *squares, *room),
+        PlayFact::DotOnEmpty { square } => square_fact(alloc, "DotOnEmpty", *square),
+        PlayFact::OtherLetter {
+            square,
+            written,
+            shown,
+        } => letter_fact(alloc, *square, *written, *shown),
+        PlayFact::NoNewTile => bare_tree(alloc, "NoNewTile"),
+        PlayFact::ManyTiles { tiles } => many_fact(alloc, *tiles),
+        PlayFact::TileBefore { square, letter } => tile_fact(alloc, "TileBefore", *square, *letter),
+        PlayFact::TileAfter { square, letter } => tile_fact(alloc, "TileAfter", *square, *letter),
+        PlayFact::NotWhole => bare_tree(alloc, "NotWhole"),
+        PlayFact::MissesCentre => bare_tree(alloc, "MissesCentre"),
+        PlayFact::TooShort => bare_tree(alloc, "TooShort"),
+        PlayFact::Apart => bare_tree(alloc, "Apart"),
     }
 }

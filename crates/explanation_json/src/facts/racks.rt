@@ -1,147 +1,133 @@
-//! Facts about racks, as objects.
+//! Facts about racks, as trees.
+ghost use Rattle.std.specs.Prelude.{◌≡◌, IfOk};
+ghost use Rattle.json_trees.specs.Trees.{view};
+ghost use Rattle.explanation_json.specs.Racks.{left_over_object, rack_object, short_object, too_big_object};
 
-use crate::fact_lines::{LineObject, kind_lines, rack_lines};
-use crate::fact_parts::{lines_of, numbers_of};
-use answer_json::{number_of, text_of, tiles_of};
+use crate::fact_lines::{kind_lines, rack_lines};
+use crate::fact_parts::{lines_tree, numbers_tree};
+use answer_json::{number_of, tile_tree, tiles_tree};
 use event_facts::{KindLine, RackFact, RackLine};
 use gcg_read::Seat;
+use json_trees::{Tree, count_tree, name_tree, object, size_tree};
 use ref_tiles::{Counts, Kind};
-use serde::Serialize;
 use std::alloc::{AllocError, Global};
 
-/// A fact about racks: its name, and the fields that it has.
-#[derive(Drop, Serialize)]
-pub struct RackObject {
-    name: &'static str,
-    #[serde(skip_serializing_if = "Option::is_none")]
-    player: Option<u32>,
-    #[serde(skip_serializing_if = "Option::is_none")]
-    tile: Option<String>,
-    #[serde(skip_serializing_if = "Option::is_none")]
-    rack: Option<String>,
-    #[serde(skip_serializing_if = "Option::is_none")]
-    number: Option<usize>,
-    #[serde(skip_serializing_if = "Option::is_none")]
-    limit: Option<usize>,
-    #[serde(skip_serializing_if = "Option::is_none")]
-    on_board: Option<usize>,
-    #[serde(skip_serializing_if = "Option::is_none")]
-    on_racks: Option<Vec<usize>>,
-    #[serde(skip_serializing_if = "Option::is_none")]
-    lines: Option<Vec<LineObject>>,
-    #[serde(skip_serializing_if = "Option::is_none")]
-    on_lines: Option<Vec<u32>>,
+/// What lines leave on a rack.
+fn left_over(
+    alloc: Global,
+    player: Seat,
+    before: u32,
+    left: &Counts,
+    after: u32,
+    kind: Kind,
+    has: usize,
+    had: usize,
+) -> Result<Tree, AllocError>
+    ensures { IfOk result (λ tree. view tree ≡ left_over_object player before left.now after kind has had) }
+{
+    let tile = tile_tree(alloc, kind)?;
+    let left = tiles_tree(alloc, left)?;
+    let lines = lines_tree(alloc, &[before, after])?;
+    let fields = vec![in alloc;
+        ("name", name_tree("LeftOver")),
+        ("player", count_tree(number_of(player))),
+        ("tile", tile),
+        ("rack", left),
+        ("number", size_tree(has)),
+        ("limit", size_tree(had)),
+        ("on_lines", lines),
+    ]?;
+    Ok(object(fields))
 }
 
-impl RackObject {
-    /// A fact of this name that has no field yet.
-    fn named(name: &'static str) -> RackObject {
-        RackObject {
-            name,
-            player: None,
-            tile: None,
-            rack: None,
-            number: None,
-            limit: None,
-            on_board: None,
-            on_racks: None,
-            lines: None,
-            on_lines: None,
-        }
-    }
+/// That a rack would have to hold more tiles than it has.
+fn too_big(
+    alloc: Global,
+    player: Seat,
+    size: usize,
+    needed: &Counts,
+    lines: &[RackLine],
+) -> Result<Tree, AllocError>
+    ensures { IfOk result (λ tree. view tree ≡ too_big_object player size needed.now lines.now) }
+{
+    let rack = tiles_tree(alloc, needed)?;
+    let lines = rack_lines(alloc, player, lines)?;
+    let fields = vec![in alloc;
+        ("name", name_tree("RackTooBig")),
+        ("player", count_tree(number_of(player))),
+        ("rack", rack),
+        ("number", size_tree(needed.total())),
+        ("limit", size_tree(size)),
+        ("lines", lines),
+    ]?;
+    Ok(object(fields))
+}
 
-    /// What lines leave on a rack.
-    fn of_left(
-        alloc: Global,
-        player: Seat,
-        left: &Counts,
-        before: u32,
-        after: u32,
-    ) -> Result<RackObject, AllocError> {
-        let mut object = RackObject::named("LeftOver");
-        object.player = Some(number_of(player));
-        object.rack = Some(tiles_of(alloc, left)?);
-        object.on_lines = Some(lines_of(alloc, &[before, after])?);
-        Ok(object)
-    }
+/// Where the tiles of a kind would have to be of which the game has too few.
+fn short(
+    alloc: Global,
+    kind: Kind,
+    all: usize,
+    needed: usize,
+    laid: usize,
+    first: usize,
+    second: usize,
+    lines: &[KindLine],
+) -> Result<Tree, AllocError>
+    ensures { IfOk result (λ tree. view tree ≡ short_object kind all needed laid first second lines.now) }
+{
+    let tile = tile_tree(alloc, kind)?;
+    let racks = numbers_tree(alloc, &[first, second])?;
+    let lines = kind_lines(alloc, lines)?;
+    let fields = vec![in alloc;
+        ("name", name_tree("TilesShort")),
+        ("tile", tile),
+        ("number", size_tree(needed)),
+        ("limit", size_tree(all)),
+        ("on_board", size_tree(laid)),
+        ("on_racks", racks),
+        ("lines", lines),
+    ]?;
+    Ok(object(fields))
+}
 
-    /// With a kind of tile, the number of them that there are, and the number that there may be or have to be.
-    fn with_kind(
-        mut self,
-        alloc: Global,
-        kind: Kind,
-        number: usize,
-        limit: usize,
-    ) -> Result<RackObject, AllocError> {
-        self.tile = Some(text_of(alloc, &[kind.byte()])?);
-        self.number = Some(number);
-        self.limit = Some(limit);
-        Ok(self)
-    }
-
-    /// That a rack would have to hold more tiles than it has.
-    fn of_rack(
-        alloc: Global,
-        player: Seat,
-        size: usize,
-        needed: &Counts,
-        lines: &[RackLine],
-    ) -> Result<RackObject, AllocError> {
-        let mut object = RackObject::named("RackTooBig");
-        object.player = Some(number_of(player));
-        object.rack = Some(tiles_of(alloc, needed)?);
-        object.number = Some(needed.total());
-        object.limit = Some(size);
-        object.lines = Some(rack_lines(alloc, player, lines)?);
-        Ok(object)
-    }
-
-    /// Where the tiles of a kind would have to be of which the game has too few.
-    fn of_short(
-        alloc: Global,
-        laid: usize,
-        first: usize,
-        second: usize,
-        lines: &[KindLine],
-    ) -> Result<RackObject, AllocError> {
-        let mut object = RackObject::named("TilesShort");
-        object.on_board = Some(laid);
-        object.on_racks = Some(numbers_of(alloc, &[first, second])?);
-        object.lines = Some(kind_lines(alloc, lines)?);
-        Ok(object)
-    }
-
-    /// A fact.
-    pub fn of(alloc: Global, fact: &RackFact) -> Result<RackObject, AllocError> {
-        match fact {
-            RackFact::LeftOver {
-                player,
-                before,
-                left,
-                after,
-                kind,
-                has,
-                had,
-            } => RackObject::of_left(alloc, *player, left, *before, *after)?.with_kind(
-                alloc, *kind, *has, *had,
-            ),
-            RackFact::TooBig {
-                player,
-                size,
-                needed,
-                lines,
-            } => RackObject::of_rack(alloc, *player, *size, needed, lines.as_slice()),
-            RackFact::TilesShort {
-                kind,
-                all,
-                needed,
-                laid,
-                first,
-                second,
-                lines,
-            } => RackObject::of_short(alloc, *laid, *first, *second, lines.as_slice())?.with_kind(
-                alloc, *kind, *needed, *all,
-            ),
-        }
+/// A fact.
+pub fn rack_tree(alloc: Global, fact: &RackFact) -> Result<Tree, AllocError>
+    ensures { IfOk result (λ tree. view tree ≡ rack_object fact.now) }
+{
+    match fact {
+        RackFact::LeftOver {
+            player,
+            before,
+            left,
+            after,
+            kind,
+            has,
+            had,
+        } => left_over(alloc, *player, *before, left, *after, *kind, *has, *had),
+        RackFact::TooBig {
+            player,
+            size,
+            needed,
+            lines,
+        } => too_big(alloc, *player, *size, needed, lines.as_slice()),
+        RackFact::TilesShort {
+            kind,
+            all,
+            needed,
+            laid,
+            first,
+            second,
+            lines,
+        } => short(
+            alloc,
+            *kind,
+            *all,
+            *needed,
+            *laid,
+            *first,
+            *second,
+            lines.as_slice(),
+        ),
     }
 }

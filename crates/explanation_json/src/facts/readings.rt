@@ -1,128 +1,121 @@
-//! Facts about a play with another tile in one place, as objects.
+//! Facts about a play with another tile in one place, as trees.
+ghost use Rattle.std.specs.Prelude.{◌≡◌, IfOk};
+ghost use Rattle.json_trees.specs.Trees.{view};
+ghost use Rattle.explanation_json.specs.Plays.{as_blank_object, misread_object, not_on_rack_object, reading_object};
 
-use crate::fact_parts::words_of;
-use crate::squares::square_name;
-use answer_json::{text_of, tiles_of};
+use crate::fact_parts::{byte_tree, square_tree, words_tree};
+use answer_json::{tile_tree, tiles_tree};
 use event_facts::{ReadingFact, Spelled};
+use json_trees::{Tree, integer_tree, name_tree, object, size_tree};
 use ref_board::Square;
 use ref_tiles::{Counts, Kind};
-use serde::Serialize;
 use std::alloc::{AllocError, Global};
 
-/// A fact about a play with another tile in one place: its name, and the fields that it has.
-#[derive(Drop, Serialize)]
-pub struct ReadingObject {
-    name: &'static str,
-    #[serde(skip_serializing_if = "Option::is_none")]
-    square: Option<String>,
-    #[serde(skip_serializing_if = "Option::is_none")]
-    letter: Option<String>,
-    #[serde(skip_serializing_if = "Option::is_none")]
-    read: Option<String>,
-    #[serde(skip_serializing_if = "Option::is_none")]
-    tile: Option<String>,
-    #[serde(skip_serializing_if = "Option::is_none")]
-    rack: Option<String>,
-    #[serde(skip_serializing_if = "Option::is_none")]
-    score: Option<i32>,
-    #[serde(skip_serializing_if = "Option::is_none")]
-    written: Option<i32>,
-    #[serde(skip_serializing_if = "Option::is_none")]
-    number: Option<usize>,
-    #[serde(skip_serializing_if = "Option::is_none")]
-    limit: Option<usize>,
-    #[serde(skip_serializing_if = "Option::is_none")]
-    words: Option<Vec<String>>,
+/// That a letter is read as a blank.
+fn as_blank(
+    alloc: Global,
+    square: Square,
+    letter: u8,
+    read: u8,
+    score: i32,
+) -> Result<Tree, AllocError>
+    ensures { IfOk result (λ tree. view tree ≡ as_blank_object square letter read score) }
+{
+    let square = square_tree(alloc, square)?;
+    let letter = byte_tree(alloc, letter)?;
+    let read = byte_tree(alloc, read)?;
+    let fields = vec![in alloc;
+        ("name", name_tree("AsBlank")),
+        ("square", square),
+        ("letter", letter),
+        ("read", read),
+        ("score", integer_tree(score)),
+    ]?;
+    Ok(object(fields))
 }
 
-impl ReadingObject {
-    /// A fact of this name that has no field yet.
-    fn named(name: &'static str) -> ReadingObject {
-        ReadingObject {
-            name,
-            square: None,
-            letter: None,
-            read: None,
-            tile: None,
-            rack: None,
-            score: None,
-            written: None,
-            number: None,
-            limit: None,
-            words: None,
-        }
-    }
+/// That a play uses more tiles of a kind than the rack has.
+fn not_on_rack(
+    alloc: Global,
+    kind: Kind,
+    played: usize,
+    has: usize,
+    rack: &Counts,
+) -> Result<Tree, AllocError>
+    ensures { IfOk result (λ tree. view tree ≡ not_on_rack_object kind played has rack.now) }
+{
+    let tile = tile_tree(alloc, kind)?;
+    let rack = tiles_tree(alloc, rack)?;
+    let fields = vec![in alloc;
+        ("name", name_tree("NotOnRack")),
+        ("tile", tile),
+        ("rack", rack),
+        ("number", size_tree(played)),
+        ("limit", size_tree(has)),
+    ]?;
+    Ok(object(fields))
+}
 
-    /// A fact of this name about a square, the letter of a play there, what is read there, and the score with it.
-    fn of_read(
-        alloc: Global,
-        name: &'static str,
-        square: Square,
-        letter: u8,
-        read: u8,
-        score: i32,
-    ) -> Result<ReadingObject, AllocError> {
-        let mut object = ReadingObject::named(name);
-        object.square = Some(square_name(alloc, square)?);
-        object.letter = Some(text_of(alloc, &[letter])?);
-        object.read = Some(text_of(alloc, &[read])?);
-        object.score = Some(score);
-        Ok(object)
-    }
+/// That a letter is misread.
+fn misread(
+    alloc: Global,
+    square: Square,
+    letter: u8,
+    read: u8,
+    words: &[Spelled],
+    score: i32,
+    written: i32,
+) -> Result<Tree, AllocError>
+    ensures { IfOk result (λ tree. view tree ≡ misread_object square letter read words.now score written) }
+{
+    let square = square_tree(alloc, square)?;
+    let letter = byte_tree(alloc, letter)?;
+    let read = byte_tree(alloc, read)?;
+    let words = words_tree(alloc, words)?;
+    let fields = vec![in alloc;
+        ("name", name_tree("Misread")),
+        ("square", square),
+        ("letter", letter),
+        ("read", read),
+        ("score", integer_tree(score)),
+        ("written", integer_tree(written)),
+        ("words", words),
+    ]?;
+    Ok(object(fields))
+}
 
-    /// That a play uses more tiles of a kind than the rack has.
-    fn of_rack(
-        alloc: Global,
-        kind: Kind,
-        played: usize,
-        has: usize,
-        rack: &Counts,
-    ) -> Result<ReadingObject, AllocError> {
-        let mut object = ReadingObject::named("NotOnRack");
-        object.tile = Some(text_of(alloc, &[kind.byte()])?);
-        object.rack = Some(tiles_of(alloc, rack)?);
-        object.number = Some(played);
-        object.limit = Some(has);
-        Ok(object)
-    }
-
-    /// With the words of the play and the score that is written.
-    fn with_words(
-        mut self,
-        alloc: Global,
-        words: &[Spelled],
-        written: i32,
-    ) -> Result<ReadingObject, AllocError> {
-        self.words = Some(words_of(alloc, words)?);
-        self.written = Some(written);
-        Ok(self)
-    }
-
-    /// A fact.
-    pub fn of(alloc: Global, fact: &ReadingFact) -> Result<ReadingObject, AllocError> {
-        match fact {
-            ReadingFact::AsBlank {
-                square,
-                letter,
-                read,
-                score,
-            } => ReadingObject::of_read(alloc, "AsBlank", *square, *letter, *read, *score),
-            ReadingFact::NotOnRack {
-                kind,
-                played,
-                has,
-                rack,
-            } => ReadingObject::of_rack(alloc, *kind, *played, *has, rack),
-            ReadingFact::Misread {
-                square,
-                letter,
-                read,
-                words,
-                score,
-                written,
-            } => ReadingObject::of_read(
-                alloc, "Misread", *square, *letter, *read, *score,
-            )?.with_words(alloc, words.as_slice(), *written),
-        }
+/// A fact.
+pub fn reading_tree(alloc: Global, fact: &ReadingFact) -> Result<Tree, AllocError>
+    ensures { IfOk result (λ tree. view tree ≡ reading_object fact.now) }
+{
+    match fact {
+        ReadingFact::AsBlank {
+            square,
+            letter,
+            read,
+            score,
+        } => as_blank(alloc, *square, *letter, *read, *score),
+        ReadingFact::NotOnRack {
+            kind,
+            played,
+            has,
+            rack,
+        } => not_on_rack(alloc, *kind, *played, *has, rack),
+        ReadingFact::Misread {
+            square,
+            letter,
+            read,
+            words,
+            score,
+            written,
+        } => misread(
+            alloc,
+            *square,
+            *letter,
+            *read,
+            words.as_slice(),
+            *score,
+            *written,
+        ),
     }
 }

@@ -1,28 +1,27 @@
-//! Whether the rules allow an event, as objects.
+//! Whether the rules allow an event, as trees.
+ghost use Rattle.std.specs.Prelude.{◌≡◌, IfOk};
+ghost use Rattle.json_trees.specs.Trees.{view};
+ghost use Rattle.explanation_json.specs.Turns.{line_object, ruling_object};
 
+use crate::fact_parts::bare_tree;
 use event_facts::RulingFact;
-use serde::Serialize;
+use json_trees::{Tree, count_tree, name_tree, object};
+use std::alloc::{AllocError, Global};
 
-/// Whether the rules allow an event: the name of the fact, and the fields that it has.
-#[derive(Drop, Serialize)]
-pub struct RulingObject {
-    name: &'static str,
-    #[serde(skip_serializing_if = "Option::is_none")]
-    line: Option<u32>,
+/// A fact of this name about a line.
+pub fn line_fact(alloc: Global, name: &'static str, line: u32) -> Result<Tree, AllocError>
+    ensures { IfOk result (λ tree. view tree ≡ line_object name.now line) }
+{
+    let fields = vec![in alloc; ("name", name_tree(name)), ("line", count_tree(line))]?;
+    Ok(object(fields))
 }
 
-impl RulingObject {
-    /// A fact.
-    pub fn of(fact: &RulingFact) -> RulingObject {
-        match fact {
-            RulingFact::NotJudged { refused } => RulingObject {
-                name: "NotJudged",
-                line: Some(*refused),
-            },
-            RulingFact::Allowed => RulingObject {
-                name: "Allowed",
-                line: None,
-            },
-        }
+/// A fact.
+pub fn ruling_tree(alloc: Global, fact: &RulingFact) -> Result<Tree, AllocError>
+    ensures { IfOk result (λ tree. view tree ≡ ruling_object fact.now) }
+{
+    match fact {
+        RulingFact::NotJudged { refused } => line_fact(alloc, "NotJudged", *refused),
+        RulingFact::Allowed => bare_tree(alloc, "Allowed"),
     }
 }

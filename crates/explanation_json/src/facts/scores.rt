@@ -1,148 +1,139 @@
-//! Facts about a score, as objects.
+//! Facts about a score, as trees.
+ghost use Rattle.std.specs.Prelude.{◌≡◌, IfOk, map};
+ghost use Rattle.json_trees.specs.Trees.{view};
+ghost use Rattle.json_trees.specs.Values.{array_of};
+ghost use Rattle.explanation_json.specs.Scores.{elsewhere_object, last_rack_object, score_object, scores_object, spot_object, total_fits_object};
 
-use crate::squares::square_name;
-use answer_json::{direction_of, number_of, tiles_of};
+use crate::fact_parts::square_tree;
+use answer_json::{direction_of, number_of, tiles_tree};
 use event_facts::ScoreFact;
 use game_facts::Spot;
 use gcg_read::Seat;
+use json_trees::{Tree, array, bool_tree, count_tree, integer_tree, name_tree, object, size_tree};
 use ref_tiles::Counts;
-use serde::Serialize;
 use std::alloc::{AllocError, Global};
 
 /// A place where a play begins.
-#[derive(Drop, Serialize)]
-struct SpotObject {
-    square: String,
-    direction: &'static str,
+fn spot_tree(alloc: Global, spot: &Spot) -> Result<Tree, AllocError>
+    ensures { IfOk result (λ tree. view tree ≡ spot_object spot.now) }
+{
+    let square = square_tree(alloc, spot.at)?;
+    let fields = vec![in alloc;
+        ("square", square),
+        ("direction", name_tree(direction_of(spot.dir))),
+    ]?;
+    Ok(object(fields))
 }
 
 /// Places where a play begins.
-fn spots_of(alloc: Global, spots: &[Spot]) -> Result<Vec<SpotObject>, AllocError> {
-    let mut objects = Vec::new(alloc);
+fn spots_array(alloc: Global, spots: &[Spot]) -> Result<Tree, AllocError>
+    ensures { IfOk result (λ tree. view tree ≡ array_of (map spot_object spots.now)) }
+{
+    let mut trees = Vec::new(alloc);
     for spot in spots {
-        objects.push(SpotObject {
-            square: square_name(alloc, spot.at)?,
-            direction: direction_of(spot.dir),
-        })?;
+        trees.push(spot_tree(alloc, spot)?)?;
     }
-    Ok(objects)
+    Ok(array(trees))
 }
 
-/// A fact about a score: its name, and the fields that it has.
-#[derive(Drop, Serialize)]
-pub struct ScoreObject {
+/// A fact of this name about the right score and the one that is written.
+fn scores_fact(
+    alloc: Global,
     name: &'static str,
-    #[serde(skip_serializing_if = "Option::is_none")]
-    player: Option<u32>,
-    #[serde(skip_serializing_if = "Option::is_none")]
-    rack: Option<String>,
-    #[serde(skip_serializing_if = "Option::is_none")]
-    score: Option<i32>,
-    #[serde(skip_serializing_if = "Option::is_none")]
-    right: Option<i32>,
-    #[serde(skip_serializing_if = "Option::is_none")]
-    written: Option<i32>,
-    #[serde(skip_serializing_if = "Option::is_none")]
-    doubled: Option<bool>,
-    #[serde(skip_serializing_if = "Option::is_none")]
-    places: Option<Vec<SpotObject>>,
-    #[serde(skip_serializing_if = "Option::is_none")]
-    more_places: Option<usize>,
+    right: i32,
+    written: i32,
+) -> Result<Tree, AllocError>
+    ensures { IfOk result (λ tree. view tree ≡ scores_object name.now right written) }
+{
+    let fields = vec![in alloc;
+        ("name", name_tree(name)),
+        ("right", integer_tree(right)),
+        ("written", integer_tree(written)),
+    ]?;
+    Ok(object(fields))
 }
 
-impl ScoreObject {
-    /// A fact of this name that has no field yet.
-    fn named(name: &'static str) -> ScoreObject {
-        ScoreObject {
-            name,
-            player: None,
-            rack: None,
-            score: None,
-            right: None,
-            written: None,
-            doubled: None,
-            places: None,
-            more_places: None,
-        }
-    }
+/// The score of a last rack.
+fn last_rack(
+    alloc: Global,
+    player: Seat,
+    is_doubled: bool,
+    tiles: &Counts,
+    right: i32,
+    written: i32,
+) -> Result<Tree, AllocError>
+    ensures { IfOk result (λ tree. view tree ≡ last_rack_object player is_doubled tiles.now right written) }
+{
+    let tiles = tiles_tree(alloc, tiles)?;
+    let fields = vec![in alloc;
+        ("name", name_tree("LastRackScore")),
+        ("player", count_tree(number_of(player))),
+        ("rack", tiles),
+        ("right", integer_tree(right)),
+        ("written", integer_tree(written)),
+        ("doubled", bool_tree(is_doubled)),
+    ]?;
+    Ok(object(fields))
+}
 
-    /// A fact of this name about the right score and the one that is written.
-    fn of_scores(name: &'static str, right: i32, written: i32) -> ScoreObject {
-        let mut object = ScoreObject::named(name);
-        object.right = Some(right);
-        object.written = Some(written);
-        object
-    }
+/// Where the same letters have the written score.
+fn elsewhere(alloc: Global, written: i32, spots: &[Spot], others: usize) -> Result<Tree, AllocError>
+    ensures { IfOk result (λ tree. view tree ≡ elsewhere_object written spots.now others) }
+{
+    let spots = spots_array(alloc, spots)?;
+    let fields = vec![in alloc;
+        ("name", name_tree("ElsewhereScore")),
+        ("written", integer_tree(written)),
+        ("places", spots),
+        ("more_places", size_tree(others)),
+    ]?;
+    Ok(object(fields))
+}
 
-    /// The score of a last rack.
-    fn of_rack(
-        alloc: Global,
-        player: Seat,
-        is_doubled: bool,
-        tiles: &Counts,
-        right: i32,
-        written: i32,
-    ) -> Result<ScoreObject, AllocError> {
-        let mut object = ScoreObject::of_scores("LastRackScore", right, written);
-        object.player = Some(number_of(player));
-        object.doubled = Some(is_doubled);
-        object.rack = Some(tiles_of(alloc, tiles)?);
-        Ok(object)
-    }
+/// That the written total is right with the right score.
+fn total_fits(alloc: Global, points: i32, all: i32) -> Result<Tree, AllocError>
+    ensures { IfOk result (λ tree. view tree ≡ total_fits_object points all) }
+{
+    let fields = vec![in alloc;
+        ("name", name_tree("TotalFits")),
+        ("score", integer_tree(points)),
+        ("right", integer_tree(all)),
+    ]?;
+    Ok(object(fields))
+}
 
-    /// Where the same letters have the written score.
-    fn of_places(
-        alloc: Global,
-        written: i32,
-        spots: &[Spot],
-        others: usize,
-    ) -> Result<ScoreObject, AllocError> {
-        let mut object = ScoreObject::named("ElsewhereScore");
-        object.written = Some(written);
-        object.places = Some(spots_of(alloc, spots)?);
-        object.more_places = Some(others);
-        Ok(object)
-    }
-
-    /// That the written total is right with the right score.
-    fn of_total(score: i32, total: i32) -> ScoreObject {
-        let mut object = ScoreObject::named("TotalFits");
-        object.score = Some(score);
-        object.right = Some(total);
-        object
-    }
-
-    /// A fact.
-    pub fn of(alloc: Global, fact: &ScoreFact) -> Result<ScoreObject, AllocError> {
-        match fact {
-            ScoreFact::Play { right, written } => {
-                Ok(ScoreObject::of_scores("PlayScore", *right, *written))
-            }
-            ScoreFact::Pass { right, written } => {
-                Ok(ScoreObject::of_scores("PassScore", *right, *written))
-            }
-            ScoreFact::Exchange { right, written } => {
-                Ok(ScoreObject::of_scores("ExchangeScore", *right, *written))
-            }
-            ScoreFact::Withdrawal { right, written } => {
-                Ok(ScoreObject::of_scores("WithdrawalScore", *right, *written))
-            }
-            ScoreFact::LastRack {
-                player,
-                is_doubled,
-                tiles,
-                right,
-                written,
-            } => ScoreObject::of_rack(alloc, *player, *is_doubled, tiles, *right, *written),
-            ScoreFact::Other { right, written } => {
-                Ok(ScoreObject::of_scores("OtherScore", *right, *written))
-            }
-            ScoreFact::Elsewhere {
-                written,
-                spots,
-                others,
-            } => ScoreObject::of_places(alloc, *written, spots.as_slice(), *others),
-            ScoreFact::TotalFits { score, total } => Ok(ScoreObject::of_total(*score, *total)),
-        }
+/// A fact.
+pub fn score_tree(alloc: Global, fact: &ScoreFact) -> Result<Tree, AllocError>
+    ensures { IfOk result (λ tree. view tree ≡ score_object fact.now) }
+{
+    match fact {
+        ScoreFact::Play { right, written } => scores_fact(alloc, "PlayScore", *right, *written),
+        ScoreFact::Pass { right, written } => scores_fact(alloc, "PassScore", *right, *written),
+        ScoreFact::Exchange { right, written } => scores_fact(
+            alloc,
+            "ExchangeScore",
+            *right,
+            *written,
+        ),
+        ScoreFact::Withdrawal { right, written } => scores_fact(
+            alloc,
+            "WithdrawalScore",
+            *right,
+            *written,
+        ),
+        ScoreFact::LastRack {
+            player,
+            is_doubled,
+            tiles,
+            right,
+            written,
+        } => last_rack(alloc, *player, *is_doubled, tiles, *right, *written),
+        ScoreFact::Other { right, written } => scores_fact(alloc, "OtherScore", *right, *written),
+        ScoreFact::Elsewhere {
+            written,
+            spots,
+            others,
+        } => elsewhere(alloc, *written, spots.as_slice(), *others),
+        ScoreFact::TotalFits { score, total } => total_fits(alloc, *score, *total),
     }
 }

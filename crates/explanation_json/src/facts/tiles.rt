@@ -1,76 +1,82 @@
-//! Facts about the number of tiles, as objects.
+//! Facts about the number of tiles, as trees.
+ghost use Rattle.std.specs.Prelude.{◌≡◌, IfOk};
+ghost use Rattle.json_trees.specs.Trees.{view};
+ghost use Rattle.explanation_json.specs.Racks.{bag_object, exchange_size_object, held_object, tile_object};
 
 use answer_json::number_of;
 use event_facts::TileFact;
 use gcg_read::Seat;
-use serde::Serialize;
+use json_trees::{Tree, count_tree, name_tree, object, size_tree};
+use std::alloc::{AllocError, Global};
 
-/// A fact about the number of tiles: its name, and the fields that it has.
-#[derive(Drop, Serialize)]
-pub struct TileObject {
+/// A fact of this name about the number of tiles of an event, and the number that a player has.
+fn held_fact(
+    alloc: Global,
     name: &'static str,
-    #[serde(skip_serializing_if = "Option::is_none")]
-    player: Option<u32>,
-    #[serde(skip_serializing_if = "Option::is_none")]
-    number: Option<usize>,
-    #[serde(skip_serializing_if = "Option::is_none")]
-    limit: Option<usize>,
-    #[serde(skip_serializing_if = "Option::is_none")]
-    bag: Option<usize>,
+    player: Seat,
+    number: usize,
+    has: usize,
+) -> Result<Tree, AllocError>
+    ensures { IfOk result (λ tree. view tree ≡ held_object name.now player number has) }
+{
+    let fields = vec![in alloc;
+        ("name", name_tree(name)),
+        ("player", count_tree(number_of(player))),
+        ("number", size_tree(number)),
+        ("limit", size_tree(has)),
+    ]?;
+    Ok(object(fields))
 }
 
-impl TileObject {
-    /// A fact of this name that has no field yet.
-    fn named(name: &'static str) -> TileObject {
-        TileObject {
-            name,
-            player: None,
-            number: None,
-            limit: None,
-            bag: None,
+/// That the bag has too few tiles for an exchange.
+fn bag_fact(alloc: Global, bag: usize, least: usize) -> Result<Tree, AllocError>
+    ensures { IfOk result (λ tree. view tree ≡ bag_object bag least) }
+{
+    let fields = vec![in alloc;
+        ("name", name_tree("ExchangeRefused")),
+        ("limit", size_tree(least)),
+        ("bag", size_tree(bag)),
+    ]?;
+    Ok(object(fields))
+}
+
+/// An exchange of more tiles than there are.
+fn exchange_size(
+    alloc: Global,
+    number: usize,
+    player: Seat,
+    has: usize,
+    bag: usize,
+) -> Result<Tree, AllocError>
+    ensures { IfOk result (λ tree. view tree ≡ exchange_size_object number player has bag) }
+{
+    let fields = vec![in alloc;
+        ("name", name_tree("ExchangeSize")),
+        ("player", count_tree(number_of(player))),
+        ("number", size_tree(number)),
+        ("limit", size_tree(has)),
+        ("bag", size_tree(bag)),
+    ]?;
+    Ok(object(fields))
+}
+
+/// A fact.
+pub fn tile_tree(alloc: Global, fact: &TileFact) -> Result<Tree, AllocError>
+    ensures { IfOk result (λ tree. view tree ≡ tile_object fact.now) }
+{
+    match fact {
+        TileFact::TooManyUsed { player, used, has } => {
+            held_fact(alloc, "TooManyUsed", *player, *used, *has)
         }
-    }
-
-    /// A fact of this name about the number of tiles of an event, and the number that a player has.
-    fn of_rack(name: &'static str, player: Seat, number: usize, has: usize) -> TileObject {
-        let mut object = TileObject::named(name);
-        object.player = Some(number_of(player));
-        object.number = Some(number);
-        object.limit = Some(has);
-        object
-    }
-
-    /// That the bag has too few tiles for an exchange.
-    fn of_bag(bag: usize, least: usize) -> TileObject {
-        let mut object = TileObject::named("ExchangeRefused");
-        object.limit = Some(least);
-        object.bag = Some(bag);
-        object
-    }
-
-    /// An exchange of more tiles than there are.
-    fn of_exchange(tiles: usize, player: Seat, has: usize, bag: usize) -> TileObject {
-        let mut object = TileObject::of_rack("ExchangeSize", player, tiles, has);
-        object.bag = Some(bag);
-        object
-    }
-
-    /// A fact.
-    pub fn of(fact: &TileFact) -> TileObject {
-        match fact {
-            TileFact::TooManyUsed { player, used, has } => {
-                TileObject::of_rack("TooManyUsed", *player, *used, *has)
-            }
-            TileFact::ExchangeRefused { bag, least } => TileObject::of_bag(*bag, *least),
-            TileFact::ExchangeSize {
-                tiles,
-                player,
-                has,
-                bag,
-            } => TileObject::of_exchange(*tiles, *player, *has, *bag),
-            TileFact::LastRackSize { shown, holder, has } => {
-                TileObject::of_rack("LastRackSize", *holder, *shown, *has)
-            }
+        TileFact::ExchangeRefused { bag, least } => bag_fact(alloc, *bag, *least),
+        TileFact::ExchangeSize {
+            tiles,
+            player,
+            has,
+            bag,
+        } => exchange_size(alloc, *tiles, *player, *has, *bag),
+        TileFact::LastRackSize { shown, holder, has } => {
+            held_fact(alloc, "LastRackSize", *holder, *shown, *has)
         }
     }
 }

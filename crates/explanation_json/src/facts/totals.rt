@@ -1,94 +1,88 @@
-//! Facts about a total or a penalty for time, as objects.
+//! Facts about a total or a penalty for time, as trees.
+ghost use Rattle.std.specs.Prelude.{◌≡◌, IfOk};
+ghost use Rattle.json_trees.specs.Trees.{view};
+ghost use Rattle.explanation_json.specs.Scores.{left_out_object, penalty_object, step_object, sum_object, total_object};
 
+use crate::fact_parts::bare_tree;
 use answer_json::number_of;
 use event_facts::TotalFact;
 use gcg_read::Seat;
-use serde::Serialize;
+use json_trees::{Tree, count_tree, integer_tree, name_tree, object, size_tree};
+use std::alloc::{AllocError, Global};
 
-/// A fact about a total or a penalty for time: its name, and the fields that it has.
-#[derive(Drop, Serialize)]
-pub struct TotalObject {
-    name: &'static str,
-    #[serde(skip_serializing_if = "Option::is_none")]
-    line: Option<u32>,
-    #[serde(skip_serializing_if = "Option::is_none")]
-    player: Option<u32>,
-    #[serde(skip_serializing_if = "Option::is_none")]
-    had: Option<i32>,
-    #[serde(skip_serializing_if = "Option::is_none")]
-    score: Option<i32>,
-    #[serde(skip_serializing_if = "Option::is_none")]
-    right: Option<i32>,
-    #[serde(skip_serializing_if = "Option::is_none")]
-    written: Option<i32>,
-    #[serde(skip_serializing_if = "Option::is_none")]
-    limit: Option<usize>,
+/// The sum that makes a total.
+fn sum_fact(
+    alloc: Global,
+    player: Seat,
+    had: i32,
+    score: i32,
+    right: i32,
+    written: i32,
+) -> Result<Tree, AllocError>
+    ensures { IfOk result (λ tree. view tree ≡ sum_object player had score right written) }
+{
+    let fields = vec![in alloc;
+        ("name", name_tree("WrongTotal")),
+        ("player", count_tree(number_of(player))),
+        ("had", integer_tree(had)),
+        ("score", integer_tree(score)),
+        ("right", integer_tree(right)),
+        ("written", integer_tree(written)),
+    ]?;
+    Ok(object(fields))
 }
 
-impl TotalObject {
-    /// A fact of this name that has no field yet.
-    fn named(name: &'static str) -> TotalObject {
-        TotalObject {
-            name,
-            line: None,
-            player: None,
-            had: None,
-            score: None,
-            right: None,
-            written: None,
-            limit: None,
-        }
-    }
+/// The turn that a total leaves out.
+fn left_out(alloc: Global, line: u32, score: i32) -> Result<Tree, AllocError>
+    ensures { IfOk result (λ tree. view tree ≡ left_out_object line score) }
+{
+    let fields = vec![in alloc;
+        ("name", name_tree("LeavesOut")),
+        ("line", count_tree(line)),
+        ("score", integer_tree(score)),
+    ]?;
+    Ok(object(fields))
+}
 
-    /// The sum that makes a total.
-    fn of_sum(player: Seat, had: i32, score: i32, right: i32, written: i32) -> TotalObject {
-        let mut object = TotalObject::named("WrongTotal");
-        object.player = Some(number_of(player));
-        object.had = Some(had);
-        object.score = Some(score);
-        object.right = Some(right);
-        object.written = Some(written);
-        object
-    }
+/// Which penalties for time are possible.
+fn step_fact(alloc: Global, step: usize, written: i32) -> Result<Tree, AllocError>
+    ensures { IfOk result (λ tree. view tree ≡ step_object step written) }
+{
+    let fields = vec![in alloc;
+        ("name", name_tree("TimeStep")),
+        ("written", integer_tree(written)),
+        ("limit", size_tree(step)),
+    ]?;
+    Ok(object(fields))
+}
 
-    /// The turn that a total leaves out.
-    fn of_turn(line: u32, score: i32) -> TotalObject {
-        let mut object = TotalObject::named("LeavesOut");
-        object.line = Some(line);
-        object.score = Some(score);
-        object
-    }
+/// That a player already has a penalty for time.
+fn penalty(alloc: Global, player: Seat, line: u32) -> Result<Tree, AllocError>
+    ensures { IfOk result (λ tree. view tree ≡ penalty_object player line) }
+{
+    let fields = vec![in alloc;
+        ("name", name_tree("SecondTime")),
+        ("line", count_tree(line)),
+        ("player", count_tree(number_of(player))),
+    ]?;
+    Ok(object(fields))
+}
 
-    /// Which penalties for time are possible.
-    fn of_step(step: usize, written: i32) -> TotalObject {
-        let mut object = TotalObject::named("TimeStep");
-        object.limit = Some(step);
-        object.written = Some(written);
-        object
-    }
-
-    /// That a player already has a penalty for time.
-    fn of_penalty(player: Seat, line: u32) -> TotalObject {
-        let mut object = TotalObject::named("SecondTime");
-        object.player = Some(number_of(player));
-        object.line = Some(line);
-        object
-    }
-
-    /// A fact.
-    pub fn of(fact: &TotalFact) -> TotalObject {
-        match fact {
-            TotalFact::Wrong {
-                player,
-                had,
-                score,
-                right,
-                written,
-            } => TotalObject::of_sum(*player, *had, *score, *right, *written),
-            TotalFact::LeavesOutOwn => TotalObject::named("LeavesOutOwn"),
-            TotalFact::LeavesOut { line, score } => TotalObject::of_turn(*line, *score),
-            TotalFact::TimeStep { step, written } => TotalObject::of_step(*step, *written),
-            TotalFact::SecondTime { player, line } => TotalObject::of_penalty(*player, *line),
-        }
+/// A fact.
+pub fn total_tree(alloc: Global, fact: &TotalFact) -> Result<Tree, AllocError>
+    ensures { IfOk result (λ tree. view tree ≡ total_object fact.now) }
+{
+    match fact {
+        TotalFact::Wrong {
+            player,
+            had,
+            score,
+            right,
+            written,
+        } => sum_fact(alloc, *player, *had, *score, *right, *written),
+        TotalFact::LeavesOutOwn => bare_tree(alloc, "LeavesOutOwn"),
+        TotalFact::LeavesOut { line, score } => left_out(alloc, *line, *score),
+        TotalFact::TimeStep { step, written } => step_fact(alloc, *step, *written),
+        TotalFact::SecondTime { player, line } => penalty(alloc, *player, *line),
     }
 }

@@ -1,67 +1,59 @@
-//! Facts about turns, as objects.
+//! Facts about turns, as trees.
+ghost use Rattle.std.specs.Prelude.{◌≡◌, IfOk};
+ghost use Rattle.json_trees.specs.Trees.{view};
+ghost use Rattle.explanation_json.specs.Turns.{none_due_object, players_object, turn_object};
 
+use crate::fact_parts::bare_tree;
 use answer_json::number_of;
 use event_facts::TurnFact;
 use gcg_read::Seat;
-use serde::Serialize;
+use json_trees::{Tree, count_tree, name_tree, object, size_tree};
+use std::alloc::{AllocError, Global};
 
-/// A fact about turns: its name, and the fields that it has.
-#[derive(Drop, Serialize)]
-pub struct TurnObject {
+/// A fact of this name about two players.
+fn players_fact(
+    alloc: Global,
     name: &'static str,
-    #[serde(skip_serializing_if = "Option::is_none")]
-    player: Option<u32>,
-    #[serde(skip_serializing_if = "Option::is_none")]
-    other: Option<u32>,
-    #[serde(skip_serializing_if = "Option::is_none")]
-    number: Option<usize>,
-    #[serde(skip_serializing_if = "Option::is_none")]
-    limit: Option<usize>,
+    player: Seat,
+    other: Seat,
+) -> Result<Tree, AllocError>
+    ensures { IfOk result (λ tree. view tree ≡ players_object name.now player other) }
+{
+    let fields = vec![in alloc;
+        ("name", name_tree(name)),
+        ("player", count_tree(number_of(player))),
+        ("other", count_tree(number_of(other))),
+    ]?;
+    Ok(object(fields))
 }
 
-impl TurnObject {
-    /// A fact of this name that has no field yet.
-    fn named(name: &'static str) -> TurnObject {
-        TurnObject {
-            name,
-            player: None,
-            other: None,
-            number: None,
-            limit: None,
-        }
-    }
+/// That no last rack is due.
+fn none_due(alloc: Global, limit: usize, turns: usize) -> Result<Tree, AllocError>
+    ensures { IfOk result (λ tree. view tree ≡ none_due_object limit turns) }
+{
+    let fields = vec![in alloc;
+        ("name", name_tree("NoRackDue")),
+        ("number", size_tree(turns)),
+        ("limit", size_tree(limit)),
+    ]?;
+    Ok(object(fields))
+}
 
-    /// A fact of this name about two players.
-    fn of_players(name: &'static str, player: Seat, other: Seat) -> TurnObject {
-        let mut object = TurnObject::named(name);
-        object.player = Some(number_of(player));
-        object.other = Some(number_of(other));
-        object
-    }
-
-    /// That no last rack is due.
-    fn of_none_due(limit: usize, turns: usize) -> TurnObject {
-        let mut object = TurnObject::named("NoRackDue");
-        object.number = Some(turns);
-        object.limit = Some(limit);
-        object
-    }
-
-    /// A fact.
-    pub fn of(fact: &TurnFact) -> TurnObject {
-        match fact {
-            TurnFact::OthersTurn { player, other } => {
-                TurnObject::of_players("OthersTurn", *player, *other)
-            }
-            TurnFact::OthersLine { player, out } => {
-                TurnObject::of_players("OthersLine", *player, *out)
-            }
-            TurnFact::Complete => TurnObject::named("Complete"),
-            TurnFact::Out { out, holder } => TurnObject::of_players("Out", *out, *holder),
-            TurnFact::RackLost { player, holder } => {
-                TurnObject::of_players("RackLost", *player, *holder)
-            }
-            TurnFact::NoRackDue { limit, turns } => TurnObject::of_none_due(*limit, *turns),
-        }
+/// A fact.
+pub fn turn_tree(alloc: Global, fact: &TurnFact) -> Result<Tree, AllocError>
+    ensures { IfOk result (λ tree. view tree ≡ turn_object fact.now) }
+{
+    match fact {
+        TurnFact::OthersTurn { player, other } => players_fact(
+            alloc,
+            "OthersTurn",
+            *player,
+            *other,
+        ),
+        TurnFact::OthersLine { player, out } => players_fact(alloc, "OthersLine", *player, *out),
+        TurnFact::Complete => bare_tree(alloc, "Complete"),
+        TurnFact::Out { out, holder } => players_fact(alloc, "Out", *out, *holder),
+        TurnFact::RackLost { player, holder } => players_fact(alloc, "RackLost", *player, *holder),
+        TurnFact::NoRackDue { limit, turns } => none_due(alloc, *limit, *turns),
     }
 }

@@ -1,7 +1,7 @@
 use Rattle.std.proofs.Common.{◌≡◌, length}
 use Rattle.game_turns.specs.Passing.{rules_in, record_in}
 use Rattle.lex_check.specs.Pairs.{list_in}
-use Rattle.game_notes.specs.Following.{Follows}
+use Rattle.known_bests.specs.Besides.{IsBeside}
 use Rattle.known_bests.specs.Known.{AreKnown}
 use Rattle.game_answers.specs.Answers.{AreAnswersTo}
 use Rattle.game_answers.specs.Going.{HasTaken}
@@ -11,7 +11,7 @@ abbrev pub invariant-loop-place : goal.invariant-loop-place
 invariant-loop-place l =
     record {
       taken : HasTaken (rules_in l.passed) (record_in l.passed).events l.place l.machine;
-      follows : Follows (rules_in l.passed) (list_in l.pair) l.beside.follow;
+      beside : IsBeside (rules_in l.passed) (list_in l.pair) l.beside;
       known : AreKnown (rules_in l.passed) (list_in l.pair) l.known;
       answers : AreAnswersTo (rules_in l.passed) (list_in l.pair) (record_in l.passed).events l.place l.answers.items;
       many : length l.answers.items ≡ l.place;

@@ -4,7 +4,7 @@ use Rattle.repair_answers.proofs.Grouped.{adds_one}
 use Rattle.repair_answers.proofs.evidence.push_line.Goals as goal
 
 pub returns : goal.returns
-returns c =
-    let is : is_first c.args.repairs.now c.args.index ≡ true = cc (c.is_first.ensures, c.if-not-is_first.false) in
-    adds_one c.args.repairs.now c.args.index c.in_ok-others.others.items (record { first = c.args.index; others = c.in_ok-others.others }) c.args.lines.now.items c.push.new.self.items is
+returns g c =
+    let is : is_first g.T.Lined.like c.args.items.now c.args.index ≡ true = cc (c.is_first.ensures, c.if-not-is_first.false) in
+    adds_one g.T.Lined.like c.args.items.now c.args.index c.in_ok-others.others.items (record { first = c.args.index; others = c.in_ok-others.others }) c.args.lines.now.items c.push.new.self.items is
     c.in_ok-others.ensures refl refl c.in_ok-push.ensures.items

@@ -2,8 +2,12 @@ use Rattle.std.proofs.Common.{map, ap, ◌∙◌, sym, subst}
 use Rattle.game_sheets.specs.Corrections.{HavePoints}
 use Rattle.game_rows.specs.Numbers.{numbers_in}
 use Rattle.repair_answers.specs.Unchanged.{IsFound}
-use Rattle.repair_answers.proofs.Alone.{whole, none_game, numbers_alone}
+use Rattle.repair_answers.proofs.Alone.{whole, goes_through, none_game, numbers_alone}
 use Rattle.repair_answers.proofs.unchanged.with_right_numbers.Goals as goal
+
+pub settled-requires-clause-walked : goal.settled-requires-clause-walked
+settled-requires-clause-walked c =
+    goes_through c.args.rules.now c.args.list.now c.args.game.now.events c.audit.new.events c.in_ok-audited.audited.walk c.in_ok-audited.ensures.walk (sym c.is_some.ensures ∙ c.if-is_some.false)
 
 pub returns-in_default-clause-alone : goal.returns-in_default-clause-alone
 returns-in_default-clause-alone c =

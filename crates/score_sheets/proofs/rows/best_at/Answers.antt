@@ -13,9 +13,9 @@ returns-in_ok-under-in-Some-clause-best c =
     let own = c.args.rules.now in
     let list = list_in c.args.pair.now in
     let before = c.in-Some.ensures own list written right is within in
-    let best = c.turn_best-best.result in
+    let best = c.best_at-best.result in
     let same : to_z w32 (of_z w32 c.args.gave) ≡ c.args.gave = to_z-of_z {w = w32} (search (rules, ints)) in
-    let found = subst (λ (gave : ℤ). IsTurnBest own list (state_of c.in-Some.machine.now) c.args.event.now gave best) same c.turn_best-best.ensures.best in (
+    let found = subst (λ (gave : ℤ). IsTurnBest own list (state_of c.in-Some.machine.now) c.args.event.now gave best) same c.best_at-best.ensures.best in (
       (before.0, subst (λ (s : State). IsTurnBest own list s c.args.event.now c.args.gave best) before.1 found),
       c.in_ok-under-in-Some.ensures ∙ ap (λ board. cells_under board best) c.board.ensures ∙ ap (λ (s : State). cells_under s.board best) before.1,
     )

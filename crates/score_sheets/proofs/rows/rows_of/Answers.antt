@@ -10,7 +10,7 @@ loop-place-init c =
     let list = list_in c.args.pair.now in
     let written = c.args.events.now in
     record {
-      follows = c.new-follow.ensures.follows;
+      beside = c.new-beside.ensures;
       known = c.in_ok-known.ensures rules list;
       rows = λ right is. subst (AreSheetRows rules list written right 0) (sym c.new-rows.ensures.items) (no_rows rules list written right);
     }
@@ -18,7 +18,7 @@ loop-place-init c =
 pub loop-place-preserved : goal.loop-place-preserved
 loop-place-preserved c =
     record {
-      follows = c.follow_play.ensures;
+      beside = c.in_ok-row.ensures.beside;
       known = c.in_ok-row.ensures.known;
       rows = λ right is.
           rows_more c.args.rules.now (list_in c.args.pair.now) c.args.events.now right c.loop-place.place c.loop-place.rows.items c.push.new.self.items c.in_ok-row.row (c.loop-place.invariant.rows right is)

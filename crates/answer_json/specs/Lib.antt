@@ -1,0 +1,7 @@
+pub mod Words
+pub mod Values
+pub mod Kinds
+pub mod Players
+pub mod Faults
+pub mod Verdicts
+pub mod Refusals

@@ -1,0 +1,4 @@
+pub mod Names
+pub mod Choices
+pub mod Differences
+pub mod Answers

@@ -1,0 +1,10 @@
+pub mod Parts
+pub mod Lines
+pub mod Turns
+pub mod Plays
+pub mod Scores
+pub mod Racks
+pub mod Games
+pub mod Facts
+pub mod Words
+pub mod Explained

@@ -1,0 +1,4 @@
+//! Which bytes a tree has (`texts`), and some objects of `answer_json` (`checking`).
+
+mod checking;
+mod texts;
