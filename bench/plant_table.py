@@ -1,5 +1,5 @@
 #!/usr/bin/env python3
-"""Makes the rows of the table in docs/PLANT.md: plant_table.py [--bodies] OUTPUT...
+"""Makes a table of what `rt plant` says of crates, a row for each: plant_table.py [--bodies] OUTPUT...
 
 Each OUTPUT is a file with what `rt plant NAME --all` printed; the date of a row is that of its last file. Several of one crate, as of runs with
 `--only`, make one row: a body that is in more than one of them is counted as the last one says. *Let through* are the bodies that were proved, also

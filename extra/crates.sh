@@ -1,13 +1,13 @@
 # shellcheck shell=bash
 # Read by prove.sh and edits.sh, at the top of the repository: which crates there are, and a copy of some of them for `rt ci` to work on.
 
-# The crates, each with the libraries that it uses, and those of them that are wanted.
+# The crates, each with the libraries that it uses; and those that are wanted.
 declare -A uses=() wanted=()
 while IFS=: read -r name libraries; do
     [[ $name =~ ^[a-z_]+$ ]] && uses[$name]=$libraries
 done < crates.txt
 
-# Wants a crate and those below it.
+# Marks a crate as wanted, and those that it depends on.
 want() {
     local library
     [[ -v uses[$1] && ! -v wanted[$1] ]] || return 0

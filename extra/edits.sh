@@ -2,9 +2,9 @@
 # Tries the edits that the gate leaves out: extra/edits.sh [PROCESSORS [CRATE..]]
 #
 # Each file crates/NAME/more-must-fail/*.edit makes the code of a crate wrong, and the prover must refuse it, as it must refuse those of
-# must-fail/, which the gate tries. This script copies the crates that are named, or all that have such edits, and those below them, and has
-# `rt ci` prove the copy and try the edits, on all processors or on so many. It prints what came of each edit; the last line is
-# 'N of M edits refused', and the status is 0 if all were. Where `rt ci` keeps what it proved (docs/GATE.md), run it after the gate.
+# must-fail/, which the gate tries. This script copies the crates that are named, or all that have such edits, and those that they depend on,
+# and has `rt ci` prove the copy and try the edits, PROCESSORS at a time, or as many as there are processors. It prints what came of each edit;
+# the last line is 'N of M edits refused', and the status is 0 if all were. If `rt ci` keeps what it proved (docs/GATE.md), run it after the gate.
 set -u
 cd "$(dirname "$0")/.." || exit 2
 root=$PWD

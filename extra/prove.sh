@@ -1,10 +1,10 @@
 #!/usr/bin/env bash
 # Proves the program and leaves it as crates/referee/out/referee: extra/prove.sh [PROCESSORS [CRATE]]
 #
-# It copies the crates that the program stands on, without the edits that must fail, and has `rt ci` prove the copy: crates side by side, on all
-# processors or on so many, each crate once those below it are. A line tells of each crate when it is proved. Tests and edits are tried by the
-# gate, `.ci/run`. Where `rt ci` keeps what it proved (docs/GATE.md), the next run goes on from there. Where a crate is not proved, what the
-# prover said of it is printed, and the status is 1. With CRATE that crate is proved, and those below it.
+# It copies the program's crates, without the edits that must fail, and has `rt ci` prove the copy: PROCESSORS crates at a time, or as many as
+# there are processors, each after those that it depends on. When a crate is proved, a line says so. The gate, `.ci/run`, runs the tests and
+# tries the edits. If `rt ci` keeps what it proved (docs/GATE.md), the next run goes on from there. If a crate is not proved, the script prints
+# what the prover said about it, and the status is 1. With CRATE only that crate is proved, and those that it depends on.
 set -u
 cd "$(dirname "$0")/.." || exit 2
 root=$PWD
@@ -23,7 +23,7 @@ trap 'rm -rf "$room"' EXIT
 copy_wanted "$room/copy"
 
 echo "${#wanted[@]} crates are to be proved, $processors at a time"
-# Shows which crates are proved, and keeps all that was said.
+# Prints a line for each crate that is proved, and keeps everything that was said.
 show() {
     local line done=0
     while IFS= read -r line; do

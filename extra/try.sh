@@ -1,5 +1,5 @@
 #!/usr/bin/env bash
-# Judges a game by the program as its sources stand, without any proof, in one to two minutes: extra/try.sh GAME [WORDS LEXICON]
+# Judges a game with the program as its sources are, without any proof, in one to two minutes: extra/try.sh GAME [WORDS LEXICON]
 #
 # WORDS and LEXICON are those of examples/ unless others are named. Nothing is kept, and the last line says that nothing was proved.
 set -eu

@@ -7,8 +7,8 @@
         print(told.verdict, told.line, told.fault)
 
 A game is the text of a record, or its bytes. An answer is a dictionary whose keys are attributes too, and has the exit status of the command as
-`status`. Where the status is 3, 4 or 64, there is an exception instead: `BadInput`, `Broken` or `BadRequest`. Several threads may ask one client;
-they are answered one after the other. For many processors start many clients.
+`status`. If the status is 3, 4 or 64, an exception is raised instead: `BadInput`, `Broken` or `BadRequest`. Several threads may ask one client;
+they are answered one after the other. To use many processors, start many clients.
 """
 from __future__ import annotations
 
@@ -106,7 +106,7 @@ class Answer(dict[str, Any]):
 
 
 class RefereeError(Exception):
-    """A request without an answer of the usual kind. `answer` is the object that says why, if there is one."""
+    """A request got no answer of the usual kind. `answer` is the object that says why, if there is one."""
 
     status: Optional[int] = None
 
@@ -116,7 +116,7 @@ class RefereeError(Exception):
 
 
 class BadInput(RefereeError):
-    """The record, the rack, the line or a word is none; or, as the program starts, the word list, the lexicon or the rules text."""
+    """The record, the rack, the line or a word is bad; or, when the program starts, the word list, the lexicon or the rules text is."""
 
     status = 3
 
@@ -132,7 +132,7 @@ class TimedOut(Broken, TimeoutError):
 
 
 class BadRequest(RefereeError):
-    """The request is none."""
+    """What was sent is not a request."""
 
     status = 64
 
@@ -141,7 +141,7 @@ FAILURES: dict[int, type[RefereeError]] = {3: BadInput, 4: Broken, 64: BadReques
 
 
 def text_of(game: Game) -> str:
-    """The text of a record that is given as bytes. Where it states ISO-8859-1, it states UTF-8 afterwards, as the program is given it."""
+    """The text of a record that is given as bytes. If they state ISO-8859-1, the text states UTF-8, which is what the program gets."""
     if isinstance(game, str):
         return game
     states = re.compile(rb"^(#character-encoding[ \t]+)iso-8859-1(?![^ \t\r\n])", re.IGNORECASE | re.MULTILINE)
@@ -190,7 +190,7 @@ class Referee:
             self._end()
 
     def judge(self, game: Game, *, settle: bool = False, best: bool = True) -> Answer:
-        """Judges a game, with a search for a deal where `settle` says so. Without `best` no best plays are looked for."""
+        """Judges a game, with `settle` by a search for a deal. Without `best` no best plays are looked for."""
         return self.ask("judge", game=text_of(game), settle=settle, best=best)
 
     def explain(self, game: Game, line: Optional[int] = None, *, likely: bool = True) -> Answer:
@@ -198,7 +198,7 @@ class Referee:
         return self.ask("explain", game=text_of(game), line=line, likely=likely)
 
     def audit(self, game: Game, *, corrected: bool = False) -> Answer:
-        """Audits a sheet. Where `corrected` is asked for and the corrected record stands, that is the `text` of the answer."""
+        """Audits a sheet. If `corrected` is true and the corrected record stands, it is the `text` of the answer."""
         return self.ask("audit", game=text_of(game), corrected=corrected)
 
     def board(self, game: Game, line: Optional[int] = None) -> Answer:
@@ -206,7 +206,7 @@ class Referee:
         return self.ask("board", game=text_of(game), line=line)
 
     def top(self, game: Game, rack: Optional[str] = None, *, line: Optional[int] = None, number: Optional[int] = None) -> Answer:
-        """The best plays by a rack, or by the one that the line shows: ten, unless a number is said."""
+        """The best plays by a rack, or by the one that the line shows: ten, or `number` of them."""
         return self.ask("top", game=text_of(game), rack=rack, line=line, number=number)
 
     def word(self, *words: str) -> Answer:
@@ -226,20 +226,20 @@ class Referee:
         return self.ask("page", game=text_of(game), likely=likely).text or ""
 
     def repair(self, game: Game, *, number: Optional[int] = None, repaired: bool = False) -> Answer:
-        """What repairs an illegal record, or a text that is not one, in ten lines, unless a number is said. Where `repaired` is asked for and one repair is to be
-        chosen, the repaired sheet is the `text` of the answer. A text that is not a record is a `BadInput`, whose `answer` has the repairs and the text."""
+        """What repairs an illegal record, or a text that is not one, in ten lines, or in `number` lines. If `repaired` is true and one repair is to be chosen,
+        the repaired sheet is the `text` of the answer. A text that is not a record is a `BadInput`, whose `answer` has the repairs and the text."""
         return self.ask("repair", game=text_of(game), number=number, repaired=repaired)
 
     def compare(self, first: Game, second: Game, *, merged: bool = False) -> Answer:
-        """Compares two sheets of one game. Where `merged` is asked for and there is a merged record, that is the `text` of the answer."""
+        """Compares two sheets of one game. If `merged` is true and there is a merged record, it is the `text` of the answer."""
         return self.ask("compare", first=text_of(first), second=text_of(second), merged=merged)
 
     def annotate(self, game: Game, *, number: Optional[int] = None) -> str:
-        """A sheet with notes: after each turn its best play, or as many as are said; and after the line that is refused why it is."""
+        """A sheet with notes: after each turn its best play, or the `number` best; and after the line that is refused, why it is."""
         return self.ask("annotate", game=text_of(game), number=number).text or ""
 
     def fill(self, draft: Game, *, filled: bool = False) -> Answer:
-        """Puts into a draft the scores and totals that it lacks. Where `filled` is asked for and the record is to be written, that is the `text` of the answer."""
+        """Puts into a draft the scores and totals that it lacks. If `filled` is true and the record is to be written, it is the `text` of the answer."""
         return self.ask("fill", draft=text_of(draft), filled=filled)
 
     def next(self, draft: Game) -> Answer:
@@ -247,7 +247,7 @@ class Referee:
         return self.ask("next", draft=text_of(draft))
 
     def ask(self, do: str, *, timeout: Optional[float] = None, **members: Any) -> Answer:
-        """The answer to a request with these members; one that is None is left out. With `timeout` that many seconds count for this request."""
+        """The answer to a request with these members; one that is None is left out. With `timeout` the program has that many seconds for this request."""
         with self._lock:
             number = next(self._numbers)
             asked = {"id": number, "do": do} | {key: value for key, value in members.items() if value is not None}
@@ -298,7 +298,7 @@ class Referee:
         return process
 
     def _end(self) -> None:
-        """Ends the program, as hard as that takes."""
+        """Ends the program, by force if it does not end by itself."""
         process, self._process = self._process, None
         if process is None:
             return
