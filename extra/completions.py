@@ -1,9 +1,10 @@
 #!/usr/bin/env python3
-"""Writes the completions for bash, zsh and fish from what a program says in its help: extra/completions.py PROGRAM [--check]
+"""Writes the completions for bash, zsh and fish and the manual page from what a program says in its help: extra/completions.py PROGRAM [--check]
 
 The commands, their arguments and their options are in one table, crates/command_line/src/commands.rt. The program prints it as help, and this
-script makes extra/referee.bash, extra/_referee and extra/referee.fish of it. With `--check` it writes nothing, and says which of them is out of
-date; the exit status is then 1.
+script makes extra/referee.bash, extra/_referee and extra/referee.fish of it. In extra/referee.1 it puts the version, and for each command its line and
+its options; what the page says of them stays, and what it says nothing of gets the words of help. With `--check` it writes nothing, and says which of
+the files is out of date; the exit status is then 1.
 """
 import re
 import subprocess
@@ -270,10 +271,62 @@ end
 """
 
 
+def in_roff(text):
+    """A text of help in the manual page."""
+    return text.replace("-", "\\-")
+
+
+def tag_of(option):
+    """The line of the manual page that names an option."""
+    *short, name = map(in_roff, option.names)
+    return f'.BI {name} " {option.value}"' if option.value else f'.BR {short[0]} ", " {name}' if short else f".B {name}"
+
+
+def explained(text, options):
+    """A part of the manual page with these options, each in the words of the part; in those of help if it has none."""
+    about, *said = text.split(".TP\n")
+    said = dict(it.split("\n", 1) for it in said)
+    wanted = {tag_of(it): in_roff(f"{it.said[0].upper()}{it.said[1:]}.\n") for it in options}
+    tags = [it for it in said if it in wanted]
+    tags[-1:-1] = [it for it in wanted if it not in said]  # help is the last
+    return about + "".join(f".TP\n{it}\n{said.get(it, wanted[it])}" for it in tags)
+
+
+def shown(argument):
+    """An argument on the line of a command: `WORDS`, `[RACK]`, `[GAME]...` or `WORD...`."""
+    name = f"[{argument.name}]" if argument.optional else argument.name
+    return name + ("..." if argument.several else "")
+
+
+def parted(options):
+    """The options in brackets, in no order; those of which only one may be there are in one pair."""
+    return sorted(re.split(r"[][|]+", "".join(options)))
+
+
+def section(name, command, page):
+    """The section of a command in the manual page. Its line has the options in the order of the page."""
+    found = re.search(rf"^\.SS {name}\b(.*)\n((?s:.*?))(?=^\.S[SH] )", page, re.M)
+    line, text = found.groups() if found else ("", in_roff(f"{command.said}.\n"))
+    had = re.findall(r"\[\\-[^]]*\]", line)
+    wanted = [in_roff(f"[{'|'.join(it.names)}{' ' * bool(it.value)}{it.value or ''}]") for it in command.options if it.names[-1] != "--help"]
+    options = had if parted(had) == parted(wanted) else wanted
+    return f".SS {' '.join([name, *options, *map(shown, command.arguments)])}\n{explained(text, command.options)}"
+
+
+def manual(program, own, commands):
+    """The manual page."""
+    page = (EXTRA / "referee.1").read_text()
+    version = subprocess.run([program, "-V"], capture_output=True, check=True, text=True).stdout.split()[1]
+    first, parts = re.sub(r'"referee [\d.]+"', f'"referee {version}"', page, count=1).split(".SH COMMANDS\n")
+    _, options, rest = re.split(r"(?<=\n)\.SH OPTIONS\n((?s:.*?))(?=\.SH )", parts)
+    sections = "".join(section(name, it, page) for name, it in commands.items())
+    return f"{first}.SH COMMANDS\n{sections}.SH OPTIONS\n{explained(options, own.options)}{rest}"
+
+
 def files(program):
     """The text of each file."""
     own, commands = known(program)
-    return {"referee.bash": bash(own, commands), "_referee": zsh(own, commands), "referee.fish": fish(own, commands)}
+    return {"referee.bash": bash(own, commands), "_referee": zsh(own, commands), "referee.fish": fish(own, commands), "referee.1": manual(program, own, commands)}
 
 
 def outdated(program):

@@ -2,7 +2,7 @@
 # Proves the program and leaves it as crates/referee/out/referee: extra/prove.sh [PROCESSORS [CRATE]]
 #
 # It copies the program's crates, without the edits that must fail, and has `rt ci` prove the copy: PROCESSORS crates at a time, or as many as
-# there are processors, each after those that it depends on. When a crate is proved, a line says so. The gate, `.ci/run`, runs the tests and
+# there are processors, each after those that it depends on, and prints a line for each that is proved. The gate, `.ci/run`, runs the tests and
 # tries the edits. If `rt ci` keeps what it proved (docs/GATE.md), the next run goes on from there. If a crate is not proved, the script prints
 # what the prover said about it, and the status is 1. With CRATE only that crate is proved, and those that it depends on.
 set -u
@@ -36,7 +36,7 @@ show() {
 }
 (cd "$room/copy" && RT_JOBS=$processors exec "$root/extra/rt" ci) 2>&1 | show
 if [ "${PIPESTATUS[0]}" != 0 ]; then
-    echo "extra/prove.sh: not all is proved. What was said beside that something is:" >&2
+    echo "extra/prove.sh: not everything is proved. The last messages of the prover:" >&2
     grep -vE '^statements |: proved|modules loaded|^rt: .* (proved|is kept)|^empty contracts' "$room/said" | tail -n 60 >&2
     exit 1
 fi

@@ -44,7 +44,7 @@ class Client(Differences):
             by = ["--rules", "rules"] if text is not None else []
             at = dict(rules=self.folder / "rules") if text is not None else {}
             with Referee(self.folder / "words", self.folder / "lexicon", program=self.program, timeout=600, **at) as referee:
-                self.expect(referee.words == len(set(words.split())) and referee.version == "1.1.0", referee.words, words)
+                self.expect(referee.words == len(set(words.split())) and referee.version == "1.2.0", referee.words, words)
                 for place in random.choices(range(len(events) + 1), k=10):
                     self.game(referee, by, self.put("game", "".join(map(line, events[:place])).encode()))
 

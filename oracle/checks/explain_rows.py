@@ -491,7 +491,7 @@ RACKS = [
         ">A: BCDFGHJ - +0 0\n",
         "illegal line 3: NoDeal\n"
         "line 3: >A: BCDFGHJ - +0 0\n"
-        "No deal of the tiles gives the players the racks that the lines up to this one show, though no line alone shows too much.\n"
+        "No deal of the tiles gives the players the racks that the lines up to this one show, though no single line shows too much.\n"
         "Even if only these tiles were shown, no deal would give them:\n"
         "  line 1 shows AEINRST on A's rack\n"
         "  line 3 shows BCDFGHJ on A's rack\n"
@@ -507,7 +507,7 @@ RACKS = [
         ">B: AEBCDFG - +0 0\n",
         "illegal line 4: NoDeal\n"
         "line 4: >B: AEBCDFG - +0 0\n"
-        "No deal of the tiles gives the players the racks that the lines up to this one show, though no line alone shows too much.\n"
+        "No deal of the tiles gives the players the racks that the lines up to this one show, though no single line shows too much.\n"
         "Even if only these tiles were shown, no deal would give them:\n"
         "  line 2 shows INRST on B's rack\n"
         "  line 4 shows ABCDEFG on B's rack\n"
@@ -522,7 +522,7 @@ RACKS = [
         ">A: Q - +0 0\n",
         "illegal line 3: NoDeal\n"
         "line 3: >A: Q - +0 0\n"
-        "No deal of the tiles gives the players the racks that the lines up to this one show, though no line alone shows too much.\n"
+        "No deal of the tiles gives the players the racks that the lines up to this one show, though no single line shows too much.\n"
         "Even if only these tiles were shown, no deal would give them:\n"
         "  line 3 shows Q on A's rack\n"
         "Compare the racks with the exchanges:\n"
@@ -536,7 +536,7 @@ RACKS = [
         ">A: Q -Q +0 0\n",
         "illegal line 3: NoDeal\n"
         "line 3: >A: Q -Q +0 0\n"
-        "No deal of the tiles gives the players the racks that the lines up to this one show, though no line alone shows too much.\n"
+        "No deal of the tiles gives the players the racks that the lines up to this one show, though no single line shows too much.\n"
         "Even if no rack were shown, no deal would give the plays and the exchanges.\n"
         "Compare the racks with the exchanges:\n"
         "  line 1: A exchanges 1 tile\n"

@@ -1,9 +1,8 @@
 """Compares the manual page and the completions with what the program knows: manual PROGRAM
 
-Commands, arguments, options and possible values are taken from the program's own help, by extra/completions.py. The manual page has to have a section
-for each command, with these arguments and options and no other, as in README's table of commands. The completions have to be those that
-extra/completions.py makes; and bash, zsh and fish, which run them, have to offer the same. A shell that is not installed is left out, and that is
-said. The example in the help of each command has to end with status 0 in a copy of examples/, and the statuses in it have to be among those of the page.
+Commands, arguments, options and possible values are taken from the program's own help, by extra/completions.py. The manual page and the completions
+have to be those that it makes; README's table of commands has to have the lines of the page; and bash, zsh and fish, which run the completions, have to
+offer the same. A shell that is not installed is left out, and that is said. The example in the help of each command has to end with status 0 in a copy of examples/, and the statuses in it have to be among those of the page.
 """
 import os
 import pty
@@ -48,7 +47,7 @@ zle -N zle-line-init
 def known(program):
     """What the program knows: the options of its own, and for each command its arguments, options and possible values, and its help."""
     own, commands = completions.known(program)
-    told = {name: (list(map(shown, it.arguments)), named(it.options), [value for one in it.arguments for value in one.values], it.text) for name, it in commands.items()}
+    told = {name: (list(map(completions.shown, it.arguments)), named(it.options), [value for one in it.arguments for value in one.values], it.text) for name, it in commands.items()}
     return named(own.options), told
 
 
@@ -57,49 +56,18 @@ def named(options):
     return {name: it.value for it in options for name in it.names}
 
 
-def shown(argument):
-    """An argument as help has it: `WORDS`, `[RACK]`, `[GAME]...` or `WORD...`."""
-    name = f"[{argument.name}]" if argument.optional else argument.name
-    return name + ("..." if argument.several else "")
-
-
-def page_options(text):
-    """The options that a section of the page explains, with the name of the value of each that has one."""
-    found = {}
-    for line in re.findall(r"^\.TP\n\.B[RI]? (\\-.*)$", text, re.M):
-        names = re.findall(r"(?<![\w-])--?[A-Za-z0-9][\w-]*", line.replace("\\-", "-"))
-        value = re.search(r'" ([A-Z]+)"', line)
-        found.update({name: value[1] if value else None for name in names})
-    return found
-
-
-def compare_page(own, commands, failed):
-    """The page's sections, the line of each and its options."""
-    text = (EXTRA / "referee.1").read_text()
-    parts = dict(re.findall(r"^\.SH ([A-Z ]+)\n(.*?)(?=^\.SH |\Z)", text, re.M | re.S))
-    if page_options(parts["OPTIONS"]) != own:
-        failed(f"referee.1 has the options {page_options(parts['OPTIONS'])} for {own}")
-    sections = {}
-    for line, body in re.findall(r"^\.SS ([^\n]*)\n(.*?)(?=^\.SS |\Z)", parts["COMMANDS"], re.M | re.S):
-        sections[line.split()[0]] = (line.replace("\\-", "-"), body)
-    if list(sections) != list(commands):
-        failed(f"referee.1 has the commands {list(sections)} for {list(commands)}")
-    for name in sections.keys() & commands.keys():
-        arguments, options, values, _ = commands[name]
-        line, body = sections[name]
-        on_line = dict(re.findall(r"(--[\w-]+)(?: ([A-Z]+))?(?=[\]|])", line))
-        long = {it: value or "" for it, value in options.items() if it.startswith("--") and it != "--help"}
-        if page_options(body) != options or on_line != long:
-            failed(f"referee.1 has of {name} {page_options(body)} and {on_line} for {options}")
-        if re.sub(r"\[-[^\]]*\]", "", line).split()[1:] != arguments:
-            failed(f"referee.1 has of {name} the line {line!r} for {arguments}")
-        if name != "help" and not all(re.search(rf"^\.B {value}$", body, re.M) for value in values):
-            failed(f"referee.1 does not name {values} of {name}")
+def compare_page(program, commands, failed):
+    """README's table of commands, which has the lines of the manual page, and the values of arguments, which the page names. Gives the statuses of the page."""
+    text = completions.files(program)["referee.1"]
+    sections = re.findall(r"^\.SS ([a-z]+)(.*)\n((?s:.*?))(?=^\.S[SH] )", text, re.M)
+    for name, _, body in sections:
+        if name != "help" and not all(re.search(rf"^\.B {value}$", body, re.M) for value in commands[name][2]):
+            failed(f"referee.1 does not name {commands[name][2]} of {name}")
     table = [line.replace("\\|", "|") for line in re.findall(r"^\| `([a-z]+(?: [^`]*)?)` \|", (ROOT / "README.md").read_text().split("## The commands\n")[1].split("\n## ")[0], re.M)]
-    wanted = [line for name, (line, _) in sections.items() if name != "help"]
+    wanted = [(name + line).replace("\\-", "-") for name, line, _ in sections if name != "help"]
     if sorted(table) != sorted(wanted):
         failed(f"README.md has the commands\n  {sorted(table)}\nfor\n  {sorted(wanted)}")
-    return set(re.findall(r"^\.B (\d+)$", parts["EXIT STATUS"], re.M))
+    return set(re.findall(r"^\.B (\d+)$", text.split(".SH EXIT STATUS\n")[1], re.M))
 
 
 def in_bash(rows):
@@ -216,11 +184,9 @@ def main():
     program = os.path.abspath(sys.argv[1])
     faults = []
     own, commands = known(program)
-    statuses = compare_page(own, commands, faults.append)
+    statuses = compare_page(program, commands, faults.append)
     offered = compare_completions(program, own, commands, faults.append)
     try_examples(program, commands, statuses, faults.append)
-    if f'"referee {subprocess.run([program, "-V"], capture_output=True, check=True, text=True).stdout.split()[1]}"' not in (EXTRA / "referee.1").read_text():
-        faults.append("referee.1 has another version than the program")
     for fault in faults:
         print(fault)
     print(f"{len(commands)} commands, {offered}, {len(faults)} not as they have to be")

@@ -102,7 +102,7 @@ NO_EVENT = {  # what is said of a file without an event
         ("indented", "its lines begin with blanks before the >\nreferee: indented: line 1 is not read: it has a blank before its >"),
         ("at word", "it is a word list, and the files are WORDS, LEXICON and GAME, in this order"),
         ("utf-16", "it is text in UTF-16, and records are read as UTF-8 or ISO-8859-1"),
-        ("returns", "its lines end in CR alone, and not in LF or CR LF"),
+        ("returns", "its lines end only in CR, not in LF or CR LF"),
         ("gzip", "it is compressed (gzip)"),
         ("zip", "it is compressed (zip)\nreferee: zip: line 1 is not read: it has something before its >"),
         ("at.gad at-masks.gad", "it is a compiled lexicon"),
@@ -121,7 +121,7 @@ BAD = {  # what is said of the first fault of a file that is no record
     " is missing.",
     "latin-third": "referee: latin-third line 4: \u00c9va is a third nickname: the players are A and B.",
     "returns-alone": "referee: returns-alone line 1: There are more than 5 fields after the colon, but an event has 3 to 5."
-    " (its lines end in CR alone, and not in LF or CR LF)",
+    " (its lines end only in CR, not in LF or CR LF)",
 }
 SETTLE = "referee: unsettled: `judge --settle` searches for a deal that yields the racks"
 FOURTEEN = with_counts(lambda kind, count: "AADEEINORRSTTW".count(kind))
@@ -851,7 +851,7 @@ def fielded(run):
 
 def skipped(run):
     """`--skip-others`, of every command that reads WORDS, and with `--first-field`, which comes before it."""
-    told = 'referee: {}: lines that are no words, passed over: {}; the first is line {}, "{}"'
+    told = 'referee: {}: lines that are not words, passed over: {}; the first is line {}, "{}"'
     plain, fielded = told.format("people", 5, 2, "it's"), told.format("people", 3, 2, "it's")
     run.row(["build", "--skip-others", "people", "out"], 0, error=plain, wrote=AT_IT_FILE)
     run.row(["build", "--skip-others", "--first-field", "people", "out"], 0, error=fielded, wrote=AT_IT_FILE)
@@ -885,7 +885,7 @@ def words_ruled(run):
     run.row(["word", "--each", *at, "it", "At", "ta"], 1, "IT not acceptable\nAT acceptable\nTA not acceptable\n", error="")
     for bad in ("A", "", "ABCDEFGHIJKLMNOP", "A1", "A T", "it's", "\u00e9t\u00e9"):
         for more in ([], ["--each"]):
-            run.row(["word", *more, "nowhere", "at.gad", "at", bad, "1"], 3, "bad word\n", error=f'referee: "{bad}" is no word of 2 to 15 letters')
+            run.row(["word", *more, "nowhere", "at.gad", "at", bad, "1"], 3, "bad word\n", error=f'referee: "{bad}" is not a word of 2 to 15 letters')
     run.row(["word", "digit", "at.gad", "at"], 3, "bad word list line 2: BadLetter\n")
     run.row(["word", "it-at", "at.gad", "at"], 3, "bad lexicon: Missing I+T\n", error=None)
     run.row(["word", "at", "nowhere", "at"], 4, error="referee: cannot open nowhere: no such file")
@@ -894,7 +894,7 @@ def words_ruled(run):
     Path(run.folder, "scored").write_text("# of a club\nAT 2\nIT\t2 a pronoun\n")
     run.row(["word", "--first-field", "scored", "it-at.gad", "it"], 0, "acceptable\n")
     run.row(["word", "--skip-others", "people", "it-at.gad", "it"], 0, "acceptable\n",
-            error='referee: people: lines that are no words, passed over: 5; the first is line 2, "it\'s"')
+            error='referee: people: lines that are not words, passed over: 5; the first is line 2, "it\'s"')
     for words in ([], ["at"], ["--loud", *at, "at"], ["--rules", "english.rules", *at, "at"]):
         run.row(["word", *words], 64, error=None)
     run.row(["word", *at], 64, error=None)
@@ -1135,7 +1135,7 @@ PAGED = [  # a game, its line but for its name and its page, the page, and the v
     ("unlisted", "legal unfinished - - 2 A 16 B 9 1", "unlisted%.html", ["\u2713 legal: unfinished, 1 play with an unlisted word", "A", "16", "B", "9", "A is ahead by 7"]),
     ("turn", "illegal - 2 NotYourTurn 2 A 16 - - -", "turn%.html", ["\u2717 illegal line 2: it is the other player's turn NotYourTurn", "A", "16", "", "", "A is ahead by 16"]),
     ("nothing", "no_game - - - 0 - - - - 0", "-", ["\u2013 no game: it is empty", "", "", "", "", ""]),
-    ("third", "bad_record - 3 ThirdPlayer - - - - - -", "-", ["\u2013 bad record line 3: the nickname is a third one ThirdPlayer", "", "", "", "", ""]),
+    ("third", "bad_record - 3 ThirdPlayer - - - - - -", "-", ["\u2013 bad record line 3: there is a third nickname ThirdPlayer", "", "", "", "", ""]),
     ("nowhere", "unread - - cannot_open - - - - - -", "-", ["\u2013 unread: cannot open", "", "", "", "", ""]),
     ("..", "unread - - is_a_folder - - - - - -", "-", ["\u2013 unread: is a folder", "", "", "", "", ""]),
 ]
@@ -1326,7 +1326,7 @@ def archived_lines(run):
 
 def served(run):
     """`serve`: what it says first, the answers to lines, and that each goes out before the next line is read."""
-    pair, ready = ["word", "word.gad"], '{"ready":true,"words":1,"version":"1.1.0"}\n'
+    pair, ready = ["word", "word.gad"], '{"ready":true,"words":1,"version":"1.2.0"}\n'
     asked = '{"id":1,"do":"word","words":["word"]}'
     told = '{"id":1,"status":0,"answer":{"verdict":"acceptable","line":null,"fault":null,"words":[{"word":"WORD","acceptable":true}]}}\n'
     run.row(["serve", *pair], 0, ready)
@@ -1335,32 +1335,32 @@ def served(run):
     run.row(["serve", *pair], 0, ready + '{"id":"n","status":0,"answer":{"verdict":"ok","line":null,"fault":null,"words":1}}\n', stdin='{"id":"n","do":"check"}')
     run.row(["serve", "--first-field", "--skip-others", *pair], 0, ready + told, stdin=asked)
     for line, error in [
-        ("", "the line is no JSON"),
-        ("[]", "the line is no JSON object"),
+        ("", "the line is not JSON"),
+        ("[]", "the line is not a JSON object"),
         ('{"id":1}', "the object has no do"),
-        ('{"do":1}', "do is no text"),
+        ('{"do":1}', "do is not a text"),
         ('{"do":"judged"}', 'there is no command \\"judged\\"'),
         ('{"do":"tidy","rack":"A","game":""}', 'tidy has no \\"rack\\"'),
         ('{"do":"check","game":""}', 'check has no \\"game\\"'),
         ('{"do":"top","game":""}', "top needs rack or line"),
         ('{"do":"word","words":[]}', "word needs words"),
-        ('{"do":"board","game":"","line":4294967296}', "line is no number from 0 to 4294967295"),
+        ('{"do":"board","game":"","line":4294967296}', "line is not a number from 0 to 4294967295"),
         ('{"do":"judge","game":"","settle":1}', "settle is neither true nor false"),
         ('{"id":[],"do":"tidy","game":""}', "id is neither a text nor a number"),
         ('{"do":"repair"}', "repair needs game"),
-        ('{"do":"repair","game":"","number":0}', "number is no number from 1 to 100"),
-        ('{"do":"repair","game":"","number":101}', "number is no number from 1 to 100"),
+        ('{"do":"repair","game":"","number":0}', "number is not a number from 1 to 100"),
+        ('{"do":"repair","game":"","number":101}', "number is not a number from 1 to 100"),
         ('{"do":"repair","game":"","repaired":1}', "repaired is neither true nor false"),
         ('{"do":"repair","game":"","line":1}', 'repair has no \\"line\\"'),
         ('{"do":"compare","second":""}', "compare needs first"),
         ('{"do":"compare","first":""}', "compare needs second"),
-        ('{"do":"compare","first":"","second":7}', "second is no text"),
+        ('{"do":"compare","first":"","second":7}', "second is not a text"),
         ('{"do":"compare","first":"","second":"","merged":"yes"}', "merged is neither true nor false"),
         ('{"do":"compare","first":"","second":"","game":""}', 'compare has no \\"game\\"'),
         ('{"do":"annotate","game":null}', "annotate needs game"),
-        ('{"do":"annotate","game":[]}', "game is no text"),
-        ('{"do":"annotate","game":"","number":0}', "number is no number from 1 to 100"),
-        ('{"do":"annotate","game":"","number":101}', "number is no number from 1 to 100"),
+        ('{"do":"annotate","game":[]}', "game is not a text"),
+        ('{"do":"annotate","game":"","number":0}', "number is not a number from 1 to 100"),
+        ('{"do":"annotate","game":"","number":101}', "number is not a number from 1 to 100"),
         ('{"do":"annotate","game":"","likely":true}', 'annotate has no \\"likely\\"'),
     ]:
         run.row(["serve", *pair], 0, f'{ready}{{"id":null,"status":64,"error":"{error}"}}\n', stdin=f"{line}\n")
@@ -2105,7 +2105,7 @@ def explained(run):
     short = "The game has 2 of the tile ?, but by the lines below there would have to be 3: 0 on the board, 2 on A's rack and 1 on B's.\n"
     shown = "  line 1 shows 2 on A's rack\n  line 2 shows 1 on B's rack\n"
     told("blanks", 1, f"illegal line 2: TilesShort ?\nline 2: >B: ? - +0 0\n{short}{shown}" + picture_of(2, False))
-    no_deal = "No deal of the tiles gives the players the racks that the lines up to this one show, though no line alone shows too much.\n"
+    no_deal = "No deal of the tiles gives the players the racks that the lines up to this one show, though no single line shows too much.\n"
     alone = "Even if only these tiles were shown, no deal would give them:\n  line 1 shows AEINRST on A's rack\n  line 3 shows BCDFGHJ on A's rack\n"
     exchanged = "Compare the racks with the exchanges:\n  line 1: A exchanges 1 tile\nUp to line 2 a deal of the tiles gives the players every rack that is shown.\n"
     told("one-of-seven", 1, f"illegal line 3: NoDeal\nline 3: >A: BCDFGHJ - +0 0\n{no_deal}{alone}{exchanged}" + picture_of(3, False))
@@ -2382,7 +2382,7 @@ def put_out(run):
         (["audit", "--corrected", "-", "word", "word.gad", "line-17"], (1, WORD.encode(), b"line 1: sum 17, should be 16 (A, 8E WORD)\nlegal unfinished\nA is ahead by 16; by the sheet A is ahead by 17\n")),
         (["audit", "--corrected", "-", "word", "word.gad", "turn"], (1, b"", b"illegal line 2: NotYourTurn\n")),
         (["fill", "word", "word.gad", "short-line"], (0, b">A: 8E WORD +16 16\n", b"put in: 0 scores, 1 total\nlegal unfinished\nA is ahead by 16\n")),
-        (["audit", "--corrected", "-", "at", "extra.gad", "line"], (3, b"", b"bad lexicon: Extra A\nreferee: extra.gad is the lexicon of another list than at: make its own by referee build\n")),
+        (["audit", "--corrected", "-", "at", "extra.gad", "line"], (3, b"", b"bad lexicon: Extra A\nreferee: extra.gad is not the lexicon of at, but of another list: referee build makes the right one\n")),
     ]:
         run.expect(words, said(run, words) == ended)
     run.expect("no file is named -", not Path(run.folder, "-").exists())
@@ -2442,9 +2442,9 @@ def hinted(run):
     rack = "tiles are A to Z, and ? for a blank"
     for named, told in [
         ("", "the rack has no tile, and a rack has 1 to 7"),
-        ("A1", f"'1' in the rack is no tile: {rack}"),
-        ("a1", f"'1' in the rack is no tile: {rack}"),
-        ("\u00c4", f"'\u00c4' in the rack is no tile: {rack}"),
+        ("A1", f"'1' in the rack is not a tile: {rack}"),
+        ("a1", f"'1' in the rack is not a tile: {rack}"),
+        ("\u00c4", f"'\u00c4' in the rack is not a tile: {rack}"),
         ("AAAAAAAA", "the rack has 8 tiles, and a rack has 1 to 7"),
     ]:
         run.row(["top", "at", "at.gad", "number", named], 3, "bad rack\n", error=f"referee: {told}")
@@ -2472,8 +2472,8 @@ def hinted(run):
             run.row(words, 3, f"bad rules: {why}\n", error=f"referee: {told}")
         run.row(["board", "--rules", f"{name}.rules", "line"], 3, f"bad rules: {why}\n", error=f"referee: {told}")
     run.row(["judge", "--rules", "tiles.rules", "at", "at.gad", "line"], 3, "bad rules line 1: Unknown\n", error="")
-    other = "referee: {} is the lexicon of another list than {}: make its own by referee build"
-    turned = "referee: {} is a compiled lexicon and no word list: the two names are the wrong way round"
+    other = "referee: {} is not the lexicon of {}, but of another list: referee build makes the right one"
+    turned = "referee: {} is a compiled lexicon, not a word list: the two names are the wrong way round"
     for command in (["check"], *judging):
         more = [] if command == ["check"] else ["line", *behind(command)]
         for words, lexicon, told in (("it-at", "at.gad", "Missing I+T"), ("at", "it-at.gad", "Extra I"), ("at", "count.gad", "WordCount")):
@@ -2492,8 +2492,8 @@ def hinted(run):
 def misordered(run):
     """Files in the wrong order are named as what they are."""
     order = "the files are WORDS, LEXICON and GAME, in this order"
-    run.row(["judge", "line", "at.gad", "at"], 3, "bad word list line 1: BadLetter\n", error=f"referee: line is a game record and no word list: {order}")
-    run.row(["judge", "by-hand", "at.gad", "at"], 3, "bad word list line 1: BadLetter\n", error=f"referee: by-hand is a game record and no word list: {order}")
+    run.row(["judge", "line", "at.gad", "at"], 3, "bad word list line 1: BadLetter\n", error=f"referee: line is a game record, not a word list: {order}")
+    run.row(["judge", "by-hand", "at.gad", "at"], 3, "bad word list line 1: BadLetter\n", error=f"referee: by-hand is a game record, not a word list: {order}")
     run.row(["judge", "at", "at.gad", "it-at"], 0, "legal unfinished\n", error=f"referee: it-at has no event: it is a word list, and {order}")
 
 
@@ -2646,7 +2646,7 @@ def objects(run, pair):
 
 
 def faulty(run, pair):
-    """Each line that begins with > and is no event is named."""
+    """Each line that begins with > and is not an event is named."""
     first = "The score +x is not a number of 1 to 6 digits, with or without a sign."
     code = "8H is not an event: an event is a play with its position, word, score and total, or one of the codes -, --, -TILES, -NUMBER, (challenge), (time) and (TILES)."
     bad = "bad record line 1: Number\n"
@@ -2708,8 +2708,8 @@ def explained_in_json(run, told):
 
 def helped(run):
     """Help and the version, on standard output. The text of help is not fixed, but there is some."""
-    run.row(["--version"], 0, "referee 1.1.0\nrecords: GCG\nword lists: one word a line\nlexicons: GAD1, GAD2\n")
-    run.row(["-V"], 0, "referee 1.1.0\n")
+    run.row(["--version"], 0, "referee 1.2.0\nrecords: GCG\nword lists: one word a line\nlexicons: GAD1, GAD2\n")
+    run.row(["-V"], 0, "referee 1.2.0\n")
     run.row(["rules"], 0, ENGLISH_RULES)
     for words in (["help"], ["--help"], ["-h"], ["judge", "--help"], ["judge", "-h"], ["help", "help"]):
         run.row(words, 0, None)

@@ -83,7 +83,7 @@ def main():
         with subprocess.Popen([program, "serve", "words", "lexicon"], cwd=folder, stdin=subprocess.PIPE, stdout=subprocess.PIPE) as ran:
             threading.Thread(target=lambda: (ran.stdin.write(b"\n".join(lines)), ran.stdin.close())).start()
             told = ran.stdout.read().split(b"\n")
-    assert told.pop() == b"" and json.loads(told.pop(0)) == {"ready": True, "words": 2, "version": "1.1.0"} and ran.returncode == 0, (told[-1], ran.returncode)
+    assert told.pop() == b"" and json.loads(told.pop(0)) == {"ready": True, "words": 2, "version": "1.2.0"} and ran.returncode == 0, (told[-1], ran.returncode)
     if len(told) != many:
         print(f"{len(told)} answers to {many} lines")
         differences += 1

@@ -39,7 +39,7 @@ def kind_of(text):
     if first and first[0].startswith(b"<"):
         return "it is HTML or another markup"
     if b"\r" in text and b"\n" not in text:
-        return "its lines end in CR alone, and not in LF or CR LF"
+        return "its lines end only in CR, not in LF or CR LF"
     if any(line[:1] != b">" and (fields_of(line) or [b""])[0].startswith(b">") for line in lines_of(text)):
         return INDENTED
     if re.match(b"[A-Za-z]", text.removeprefix(BOM)) and all(re.fullmatch(rb"([A-Za-z]{2,15})?", line) for line in lines_of(text)):
@@ -55,7 +55,7 @@ def bad_record(name, game):
         more = others(game, fault)
         told = b"".join(fault_advice(name, game, it) for it in [fault, *more[:MOST_NAMED]])
         if len(more) > MOST_NAMED:
-            told += f"referee: {name}: more lines that begin with > and are no events: {len(more) - MOST_NAMED}\n".encode()
+            told += f"referee: {name}: more lines that begin with > and are not events: {len(more) - MOST_NAMED}\n".encode()
         return told
     return b""
 

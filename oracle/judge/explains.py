@@ -441,7 +441,7 @@ def clash_text(places, lines, nicks, tiles, printed):
 
 
 def no_deal(places, now, lines, nicks, tiles, printed):
-    told = ["No deal of the tiles gives the players the racks that the lines up to this one show, though no line alone shows too much."]
+    told = ["No deal of the tiles gives the players the racks that the lines up to this one show, though no single line shows too much."]
     told += [*clash_text(places[: now + 1], lines[: now + 1], nicks, tiles, printed), clashes.BEHIND]
     for k, it in enumerate(places[: now + 1]):
         if it.event.kind in ("exchange", "unknown"):
@@ -640,7 +640,7 @@ def explained_fault(game, fault: Fault):
     """What is to be printed of a text that is no record."""
     more = others(game, fault)
     told = b"".join(fault_text(game, it) for it in [fault, *more[:MOST_NAMED]])
-    left = more_text(len(more), "begins with > and is no event", "begin with > and are no events")
+    left = more_text(len(more), "begins with > and is not an event", "begin with > and are not events")
     return fault.text() + told + (left + unread_text(game)).encode()
 
 

@@ -62,7 +62,7 @@ def rack_clause(rack):
         return "the line shows no rack: name one after GAME"
     for tile in (it.upper() if it.isascii() else it for it in rack):
         if not (tile == "?" or tile.isascii() and tile.isupper()):
-            return f"'{tile}' in the rack is no tile: tiles are A to Z, and ? for a blank"
+            return f"'{tile}' in the rack is not a tile: tiles are A to Z, and ? for a blank"
     if not rack:
         return "the rack has no tile, and a rack has 1 to 7"
     return f"the rack has {len(rack)} tiles, and a rack has 1 to 7"
@@ -82,11 +82,11 @@ def clause_of(words, line, folder, stdin):
     if line.startswith(b"bad word list"):
         front = (stdin if names[0] == "-" else Path(folder, names[0]).read_bytes())[:64]
         if front[:4] in (b"GAD1", b"GAD2"):
-            return f"{listed} is a compiled lexicon and no word list: the two names are the wrong way round"
+            return f"{listed} is a compiled lexicon, not a word list: the two names are the wrong way round"
         is_record = re.match(rb"(\xef\xbb\xbf)?(>|#[a-z])", front)
-        return f"{listed} is a game record and no word list: the files are WORDS, LEXICON and GAME, in this order" if is_record else None
+        return f"{listed} is a game record, not a word list: the files are WORDS, LEXICON and GAME, in this order" if is_record else None
     if line.startswith((b"bad lexicon: Missing", b"bad lexicon: Extra", b"bad lexicon: WordCount")):
-        return f"{names[1]} is the lexicon of another list than {listed}: make its own by referee build"
+        return f"{names[1]} is not the lexicon of {listed}, but of another list: referee build makes the right one"
     return None
 
 

@@ -73,7 +73,7 @@ def unread(game):
 
 
 def faulty(game):
-    """The lines that begin with > and are no events, whatever the other lines are."""
+    """The lines that begin with > and are not events, whatever the other lines are."""
     if len(game) > 1 << 20:
         return
     for line, text in lines_in(game):

@@ -3,8 +3,8 @@
     from referee import Referee
 
     with Referee("words.txt", "words.gad") as referee:
-        told = referee.judge(open("game.gcg", "rb").read())
-        print(told.verdict, told.line, told.fault)
+        answer = referee.judge(open("game.gcg", "rb").read())
+        print(answer.verdict, answer.line, answer.fault)
 
 A game is the text of a record, or its bytes. An answer is a dictionary whose keys are attributes too, and has the exit status of the command as
 `status`. If the status is 3, 4 or 64, an exception is raised instead: `BadInput`, `Broken` or `BadRequest`. Several threads may ask one client;
@@ -251,14 +251,14 @@ class Referee:
         with self._lock:
             number = next(self._numbers)
             asked = {"id": number, "do": do} | {key: value for key, value in members.items() if value is not None}
-            told = self._answered(json.dumps(asked).encode() + b"\n", self.timeout if timeout is None else timeout)
-            if told.get("id") not in (number, None):
+            response = self._answered(json.dumps(asked).encode() + b"\n", self.timeout if timeout is None else timeout)
+            if response.get("id") not in (number, None):
                 self._end()
-                raise Broken(f"the answer to {told.get('id')} in place of that to {number}")
-        answer = Answer(told.get("answer") or {})
-        answer.status, answer.text = told["status"], told.get("text")
+                raise Broken(f"the answer to {response.get('id')} in place of that to {number}")
+        answer = Answer(response.get("answer") or {})
+        answer.status, answer.text = response["status"], response.get("text")
         if answer.status in FAILURES:
-            raise FAILURES[answer.status](told.get("error") or answer.get("verdict"), answer)
+            raise FAILURES[answer.status](response.get("error") or answer.get("verdict"), answer)
         return answer
 
     def _answered(self, line: bytes, timeout: float) -> dict[str, Any]:
@@ -286,15 +286,15 @@ class Referee:
             assert pipe is not None
             os.set_blocking(pipe.fileno(), False)
         try:
-            told = _object(_exchange(process, b"", self.timeout))
+            response = _object(_exchange(process, b"", self.timeout))
         except (OSError, EOFError, ValueError) as error:
             self._end()
             raise error if isinstance(error, TimedOut) else Broken(f"the program did not start: {error}") from error
-        if told.get("ready") is not True:
+        if response.get("ready") is not True:
             self._end()
-            failure = Broken if told.get("verdict") in ("cannot open", "read failed", "no memory") else BadInput
-            raise failure(told.get("verdict"), Answer(told))
-        self.words, self.version = told["words"], told["version"]
+            failure = Broken if response.get("verdict") in ("cannot open", "read failed", "no memory") else BadInput
+            raise failure(response.get("verdict"), Answer(response))
+        self.words, self.version = response["words"], response["version"]
         return process
 
     def _end(self) -> None:
@@ -314,10 +314,10 @@ class Referee:
 
 def _object(line: bytes) -> dict[str, Any]:
     """The JSON object of a line."""
-    told = json.loads(line)
-    if not isinstance(told, dict):
+    response = json.loads(line)
+    if not isinstance(response, dict):
         raise ValueError("the line is not an object")
-    return told
+    return response
 
 
 def _exchange(process: subprocess.Popen[bytes], line: bytes, timeout: float) -> bytes:

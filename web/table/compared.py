@@ -52,19 +52,19 @@ class Comparison:
     merged: Optional[str]
 
 
-def comparison_of(told: dict[str, Any]) -> Comparison:
+def comparison_of(answer: dict[str, Any]) -> Comparison:
     """What is shown of the object of `compare`; if a sheet cannot be read or has no event, of what is said of that sheet."""
-    verdict = told["verdict"]
-    if "differences" not in told:
-        return Comparison("A sheet cannot be read.", "illegal", [], [_unread(told)], None)
+    verdict = answer["verdict"]
+    if "differences" not in answer:
+        return Comparison("A sheet cannot be read.", "illegal", [], [_unread(answer)], None)
     headline, kind = {"agree": ("The sheets agree.", "legal"), "unsettled": ("It is open which sheet is right.", "unsettled")}.get(verdict, ("The sheets differ.", "illegal"))
-    rows = [row for it in told["differences"] for row in _rows(it)]
-    return Comparison(headline, kind, rows, _sentences(told), told["merged"])
+    rows = [row for it in answer["differences"] for row in _rows(it)]
+    return Comparison(headline, kind, rows, _sentences(answer), answer["merged"])
 
 
-def _unread(told: dict[str, Any]) -> str:
-    where = f"Line {told['line']}" if told.get("line") else "The text"
-    return "A sheet has no game in it." if told["verdict"] == "no game" else f"{where} of a sheet cannot be read."
+def _unread(answer: dict[str, Any]) -> str:
+    where = f"Line {answer['line']}" if answer.get("line") else "The text"
+    return "A sheet has no game in it." if answer["verdict"] == "no game" else f"{where} of a sheet cannot be read."
 
 
 def _rows(difference: dict[str, Any]) -> list[Row]:
@@ -121,38 +121,38 @@ def _many(number: int, thing: str) -> str:
     return f"{number} {thing}" if number == 1 else f"{number} {thing}s"
 
 
-def _sentences(told: dict[str, Any]) -> list[str]:
+def _sentences(answer: dict[str, Any]) -> list[str]:
     """What there is to say of the sheets as a whole."""
     said = []
-    if told["best"] is not None and told["rivals"]:
-        said.append(f"{_many(len(told['rivals']), 'other choice')} of the lines would stand as well")
-    if told["left"]:
-        said.append(f"of {_many(len(told['left']), 'choice')} of the lines it is not known whether a deal yields the racks")
-    if told["not_varied"]:
-        said.append(f"{_many(told['not_varied'], 'difference')} came after the twelfth, and was not tried either way" if told["not_varied"] == 1 else f"{told['not_varied']} differences came after the twelfth, and were not tried either way")
-    if told["furthest"] is not None:
-        said.append(f"no choice of the lines is known to make a game; the one that goes furthest stops where {_refused(told['furthest']['refused'])}")
-    if told["best_repair"] is not None:
-        said.append(_repaired(told))
-    return [f"{sentence(it)}." for it in [*said, *_end(told), *_merged(told)]]
+    if answer["best"] is not None and answer["rivals"]:
+        said.append(f"{_many(len(answer['rivals']), 'other choice')} of the lines would stand as well")
+    if answer["left"]:
+        said.append(f"of {_many(len(answer['left']), 'choice')} of the lines it is not known whether a deal yields the racks")
+    if answer["not_varied"]:
+        said.append(f"{_many(answer['not_varied'], 'difference')} came after the twelfth, and was not tried either way" if answer["not_varied"] == 1 else f"{answer['not_varied']} differences came after the twelfth, and were not tried either way")
+    if answer["furthest"] is not None:
+        said.append(f"no choice of the lines is known to make a game; the one that goes furthest stops where {_refused(answer['furthest']['refused'])}")
+    if answer["best_repair"] is not None:
+        said.append(_repaired(answer))
+    return [f"{sentence(it)}." for it in [*said, *_end(answer), *_merged(answer)]]
 
 
-def _repaired(told: dict[str, Any]) -> str:
+def _repaired(answer: dict[str, Any]) -> str:
     """The change with which the lines make a game."""
-    best = told["best_repair"]
-    repair = told["tried"][best["tried"]]["repair"]
+    best = answer["best_repair"]
+    repair = answer["tried"][best["tried"]]["repair"]
     where = f" of the {best['sheet']} sheet" if best["sheet"] else ""
     return f"with one more change it is a game: line {repair['line']}{where}, {repair['slip']}"
 
 
-def _end(told: dict[str, Any]) -> list[str]:
+def _end(answer: dict[str, Any]) -> list[str]:
     """How the game ends, with the last totals that differ."""
-    if told["ending"] is None:
+    if answer["ending"] is None:
         return []
-    ahead, names = told["ahead"], [it["name"] or it["nick"] or "a player" for it in told["players"]]
-    verb = "won" if told["ending"] == "complete" else "is ahead"
-    said = ["the game is complete" if told["ending"] == "complete" else "the game stands so far"]
-    for total in told["totals"]:
+    ahead, names = answer["ahead"], [it["name"] or it["nick"] or "a player" for it in answer["players"]]
+    verb = "won" if answer["ending"] == "complete" else "is ahead"
+    said = ["the game is complete" if answer["ending"] == "complete" else "the game stands so far"]
+    for total in answer["totals"]:
         if not total["first"] == total["second"] == total["right"]:
             said.append(f"total of {names[total['player'] - 1]}: {_total(total['first'])} on the first sheet, {_total(total['second'])} on the second; the rules give {_total(total['right'])}")
     said.append(f"{names[ahead['player'] - 1]} {verb} by {ahead['by']}, by the right numbers" if ahead["player"] else "both have the same total")
@@ -163,7 +163,7 @@ def _total(total: Optional[int]) -> str:
     return "none" if total is None else str(total)
 
 
-def _merged(told: dict[str, Any]) -> list[str]:
-    if told["merged"] is not None:
-        return ["the merged record can be kept, below"] if told["verdict"] != "agree" else []
-    return [f"there is no merged record: {NOT_MERGED[told['not_merged']]}"] if told["not_merged"] else []
+def _merged(answer: dict[str, Any]) -> list[str]:
+    if answer["merged"] is not None:
+        return ["the merged record can be kept, below"] if answer["verdict"] != "agree" else []
+    return [f"there is no merged record: {NOT_MERGED[answer['not_merged']]}"] if answer["not_merged"] else []

@@ -180,11 +180,11 @@ def _tried(text: str, entry: Entry, nick: str) -> View:
     line = entry.line(nick)
     filled = judge().filled(drafts.with_line(text, line))
     longer = filled.judged
-    told = judge().verdict(longer)
-    if told["verdict"] in ("legal", "unsettled") and len(told["events"]) == len(drafts.event_lines(longer)):
+    answer = judge().verdict(longer)
+    if answer["verdict"] in ("legal", "unsettled") and len(answer["events"]) == len(drafts.event_lines(longer)):
         return View(longer)
     reasons = [re.sub(r"^Line \d+: ", "", reason) for reason in judge().reasons(longer)]
-    return View(text, entry, reasons or [shown.verdict_text(told)], line)
+    return View(text, entry, reasons or [shown.verdict_text(answer)], line)
 
 
 def _with_bonus(text: str, entry: Entry, nick: str) -> Entry:
@@ -200,9 +200,9 @@ def _with_bonus(text: str, entry: Entry, nick: str) -> Entry:
 def render_game(view: View) -> str:
     """The page of a game that is entered."""
     shown_text, text = view.text, judge().filled(view.text).judged
-    told = judge().verdict(text)
-    stands = told["verdict"] in ("legal", "unsettled")
-    events: list[dict[str, Any]] = told.get("events") or []
+    answer = judge().verdict(text)
+    stands = answer["verdict"] in ("legal", "unsettled")
+    events: list[dict[str, Any]] = answer.get("events") or []
     if not stands and not view.refused:
         view.refused = judge().reasons(text)
     last = judge().line(text, events[-1]["line"]) if stands and events else None
@@ -214,8 +214,8 @@ def render_game(view: View) -> str:
         view=view,
         entry=view.entry,
         text=shown_text,
-        told=told,
-        headline=shown.verdict_text(told),
+        answer=answer,
+        headline=shown.verdict_text(answer),
         stands=stands,
         events=events,
         last=last,

@@ -133,8 +133,8 @@ class Judge:
     def remarks(self, game: str) -> list[str]:
         """What the program says aside of a text: what its line lacks, what kind of file it seems to be, and which lines are not read."""
         ran = self._run(["tidy", "-"], game)
-        told = [line[len(ASIDE) :] for line in ran.stderr.splitlines() if line.startswith(ASIDE)]
-        return [line.replace("standard input line", "Line", 1) if "standard input line" in line else line.replace("standard input", "The text", 1) for line in told]
+        lines = [line[len(ASIDE) :] for line in ran.stderr.splitlines() if line.startswith(ASIDE)]
+        return [line.replace("standard input line", "Line", 1) if "standard input line" in line else line.replace("standard input", "The text", 1) for line in lines]
 
     def board(self, game: str, line: Optional[int] = None) -> Optional[Answer]:
         """The board after the last event, or before a line; nothing if the text is not a record."""
@@ -160,26 +160,26 @@ class Judge:
         if not holes:
             return Filled(draft, draft, 0)
         try:
-            told = self._ask("fill", draft=draft)
+            answer = self._ask("fill", draft=draft)
         except BadInput as bad:
-            told = _why(bad)
-        put_in = {it["line"]: it for it in told.get("lines") or []}
+            answer = _why(bad)
+        put_in = {it["line"]: it for it in answer.get("lines") or []}
         lines = drafts.lines_of(draft)
         whole = [_with_ends(line, put_in[number]) if number in put_in else line for number, line in enumerate(lines, 1)]
         zeros = {number: 0 for number, many in holes.items() if many == 2 and number not in put_in}
-        refused = told.get("line") or len(lines) + 1
+        refused = answer.get("line") or len(lines) + 1
         text = "\n".join(whole[: refused - 1] + lines[refused - 1 :])
         return Filled(text, _with_numbers("\n".join(whole), zeros), sum(1 + it["score_put_in"] for number, it in put_in.items() if number < refused))
 
     def next(self, game: str) -> Next:
         """What the next line is about; nothing is known of it after a text that is not a draft."""
         try:
-            told = self._ask("next", draft=game)
+            answer = self._ask("next", draft=game)
         except BadInput:
             return Next(None, False, None, {}, 0)
-        nicks = [player["nick"] for player in told["players"]]
+        nicks = [player["nick"] for player in answer["players"]]
         of = {seat: nick for seat, nick in enumerate(nicks, 1)}
-        return Next(of.get(told["turn"]), told["complete"], of.get(told["out"]), {player["nick"]: player["tiles"] for player in told["players"]}, told["bag"])
+        return Next(of.get(answer["turn"]), answer["complete"], of.get(answer["out"]), {player["nick"]: player["tiles"] for player in answer["players"]}, answer["bag"])
 
     def word(self, words: list[str]) -> Answer:
         """Whether words are acceptable."""

@@ -40,7 +40,7 @@ def sheet() -> str:
     filled = judge().filled(written)
     text, has_holes = filled.judged, drafts.has_holes(filled.text)
     verdict = judge().line(text)
-    told = judge().audit(text)
+    answer = judge().audit(text)
     faulty = verdict["verdict"] in ("illegal", "bad record")
     return render_template(
         "checked.html",
@@ -49,14 +49,14 @@ def sheet() -> str:
         has_holes=has_holes,
         put_in=filled.number,
         verdict=verdict,
-        headline=_headline(verdict, told),
+        headline=_headline(verdict, answer),
         kind=KINDS.get(verdict["verdict"], "illegal"),
         reasons=judge().reasons(text),
-        told=told,
-        wrong=[] if has_holes else [it for it in told.get("wrong") or [] if it["written"] != it["right"]],
+        answer=answer,
+        wrong=[] if has_holes else [it for it in answer.get("wrong") or [] if it["written"] != it["right"]],
         line_text=_line_text(text, verdict.get("line")),
-        corrected=told.text if told.text is not None and told.text != text else None,
-        stands=told["verdict"] == "legal",
+        corrected=answer.text if answer.text is not None and answer.text != text else None,
+        stands=answer["verdict"] == "legal",
         taken=bool(request.form.get("taken")),
         **(_repairs(text) if faulty and not has_holes else {}),
     )
@@ -67,10 +67,10 @@ def _line_text(text: str, line: Any) -> str:
     return lines[line - 1] if isinstance(line, int) and 0 < line <= len(lines) else ""
 
 
-def _headline(verdict: dict[str, Any], told: dict[str, Any]) -> str:
+def _headline(verdict: dict[str, Any], answer: dict[str, Any]) -> str:
     """The verdict in plain words: if only numbers are wrong, that."""
-    wrong = [it for it in told.get("wrong") or [] if it["written"] != it["right"] and it["wrong"] != "last total"]
-    if verdict["verdict"] == "illegal" and told["verdict"] == "legal" and wrong:
+    wrong = [it for it in answer.get("wrong") or [] if it["written"] != it["right"] and it["wrong"] != "last total"]
+    if verdict["verdict"] == "illegal" and answer["verdict"] == "legal" and wrong:
         many = len(wrong)
         return "1 number is wrong. With the right one the game stands." if many == 1 else f"{many} numbers are wrong. With the right ones the game stands."
     return shown.verdict_text(verdict)
@@ -108,8 +108,8 @@ def two() -> str:
     first, second = (judge().filled(text_in(name)).judged for name in ("first", "second"))
     if not first.strip() or not second.strip():
         return render_template("two.html", here="two", missing="Two sheets are needed: choose two files, or paste two texts.", texts=(first, second))
-    told = comparison_of(judge().compare(first, second))
-    return render_template("compared.html", here="two", told=told, first=first, second=second)
+    answer = comparison_of(judge().compare(first, second))
+    return render_template("compared.html", here="two", answer=answer, first=first, second=second)
 
 
 @pages.get("/challenge")
@@ -122,8 +122,8 @@ def challenge_form() -> str:
 def challenge() -> str:
     """Whether words are acceptable: one answer for all of them, as in a ruling, or one for each."""
     words = re.findall(r"[^\s,;]+", field("words"))
-    told = judge().word(words) if words else None
-    return render_template("challenge.html", here="challenge", told=told, words=words, each="each" in request.form)
+    answer = judge().word(words) if words else None
+    return render_template("challenge.html", here="challenge", answer=answer, words=words, each="each" in request.form)
 
 
 @pages.get("/view")
@@ -138,12 +138,12 @@ def view() -> str:
     text = judge().filled(text_in("game")).judged
     if not text.strip():
         return render_template("view.html", here="view", missing=NO_TEXT)
-    told = judge().verdict(text)
+    answer = judge().verdict(text)
     rack, line = field("rack").upper().replace(" ", ""), line_in("line")
     top = judge().top(text, rack or None, line) if rack or line else None
-    page = judge().page(text) if told.get("events") else ""
+    page = judge().page(text) if answer.get("events") else ""
     g.style = _style_of(page)
-    return render_template("viewed.html", here="view", text=text, page=page, told=told, headline=shown.verdict_text(told), reasons=[] if page else judge().reasons(text), rack=rack, line=line, top=top)
+    return render_template("viewed.html", here="view", text=text, page=page, answer=answer, headline=shown.verdict_text(answer), reasons=[] if page else judge().reasons(text), rack=rack, line=line, top=top)
 
 
 def _style_of(page: str) -> str:

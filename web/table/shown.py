@@ -37,9 +37,9 @@ def cell_of(mark: str, row: int, column: int, centre: int, marked: set[str]) -> 
     return Cell(square, kind, short, f"{square}, {said}" if said else square)
 
 
-def board_of(told: Optional[dict[str, Any]], marked: list[str]) -> list[list[Cell]]:
+def board_of(answer: Optional[dict[str, Any]], marked: list[str]) -> list[list[Cell]]:
     """The rows of a board."""
-    rows = told["rows"] if told else []
+    rows = answer["rows"] if answer else []
     return [[cell_of(mark, row, column, len(rows) // 2, set(marked)) for column, mark in enumerate(marks)] for row, marks in enumerate(rows)]
 
 
@@ -55,11 +55,11 @@ def event_text(event: dict[str, Any]) -> str:
     return named.get(kind) or f"last rack {event.get('tiles') or ''}".rstrip()
 
 
-def verdict_text(told: dict[str, Any]) -> str:
+def verdict_text(answer: dict[str, Any]) -> str:
     """A verdict, as a headline."""
-    verdict, line = told["verdict"], told.get("line")
+    verdict, line = answer["verdict"], answer.get("line")
     if verdict == "legal":
-        return "The game stands, and it is complete." if told.get("ending") == "complete" else "The game stands so far."
+        return "The game stands, and it is complete." if answer.get("ending") == "complete" else "The game stands so far."
     if verdict == "illegal":
         return f"Line {line} does not stand."
     if verdict == "unsettled":
@@ -97,12 +97,12 @@ class Repair:
     text: str = field(repr=False)
 
 
-def repairs_of(told: dict[str, Any], sheet: str, most: int = 5) -> list[Repair]:
+def repairs_of(answer: dict[str, Any], sheet: str, most: int = 5) -> list[Repair]:
     """The likeliest repairs of a sheet, the likeliest first."""
-    whole = [(slip, [slip]) for slip in (told.get("sheet_slips") or []) + (told.get("line_slips") or [])]
-    found = whole + [(it, [it]) for it in told.get("repairs") or []] + [(it, it["changes"]) for it in told.get("pairs") or []]
-    if told.get("chain"):
-        found.append((told["chain"], told["chain"]["changes"]))
+    whole = [(slip, [slip]) for slip in (answer.get("sheet_slips") or []) + (answer.get("line_slips") or [])]
+    found = whole + [(it, [it]) for it in answer.get("repairs") or []] + [(it, it["changes"]) for it in answer.get("pairs") or []]
+    if answer.get("chain"):
+        found.append((answer["chain"], answer["chain"]["changes"]))
     return [_repair(it, changes, sheet) for it, changes in sorted(found, key=_cost)[:most]]
 
 
@@ -110,8 +110,8 @@ def _cost(found: tuple[dict[str, Any], list[dict[str, Any]]]) -> int:
     return int(found[0]["cost"])
 
 
-def _repair(told: dict[str, Any], changes: list[dict[str, Any]], sheet: str) -> Repair:
-    evidence, lines = told["evidence"], drafts.lines_of(sheet)
+def _repair(answer: dict[str, Any], changes: list[dict[str, Any]], sheet: str) -> Repair:
+    evidence, lines = answer["evidence"], drafts.lines_of(sheet)
     shown, text = [], list(lines)
     edits = [_edit(change, lines) for change in changes]
     for change, (gone, come, _) in zip(changes, edits):

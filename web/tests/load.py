@@ -42,7 +42,7 @@ class Person(threading.Thread):
             time.sleep(self.random.uniform(0, 2))
             while time.monotonic() < self.until:
                 self.game()
-        except Exception as error:  # told at the end
+        except Exception as error:  # listed at the end
             self.faults.append(repr(error))
 
     def game(self) -> None:

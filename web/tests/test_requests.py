@@ -109,10 +109,10 @@ class Entering(Asking):
         for before, fields, said in cases:
             draft, text = self.added(start + before, **({"kind": "play"} | fields))
             alert = re.search(r'role="alert".*?</section>', text, re.DOTALL)
-            told = html.unescape(" ".join(re.sub(r"<[^>]*>", " ", alert[0]).split())) if alert else ""
-            with self.subTest(fields=fields, told=told):
+            alerted = html.unescape(" ".join(re.sub(r"<[^>]*>", " ", alert[0]).split())) if alert else ""
+            with self.subTest(fields=fields, alerted=alerted):
                 self.assertEqual(draft, start + before)
-                self.assertRegex(told, said)
+                self.assertRegex(alerted, said)
                 self.assertIn(fields.get("move", ""), text)
 
     def test_undo(self) -> None:

@@ -5,14 +5,13 @@ use crate::comparing::compare;
 use crate::forms::Form;
 use crate::kept_files::KeptFile;
 use crate::reports::{name_beside, report_beside};
-use crate::tasks::{Asked, asked_of};
 use crate::tops::{is_rack, refuse_rack};
 use call_stages::RunFault;
 use command_files::{
     InputFile, Inputs, SheetFile, Source, UsedOutput, advise_unread, give_hint, given_up,
     open_inputs, open_sheet, tell_others, told_in_json, used_source,
 };
-use command_line::{GameFiles, GameRequest, PairFiles, PlaysAsked};
+use command_line::{Asked, GameFiles, GameRequest, PairFiles};
 use exit_statuses::{Exit, Trouble};
 use reply_calls::{Ended, OneSheet, answer_sheet};
 use serve_requests::Task;
@@ -112,11 +111,11 @@ fn answer_one<'a, R: Runtime + AllocGlobal>(
 /// Whether the rack that a request names is not one.
 fn names_no_rack<R: Runtime + AllocGlobal>(
     rt: &R,
-    request: GameRequest<'_>,
+    asked: Asked<'_>,
 ) -> Result<bool, Trouble<'static>> {
-    match request {
-        GameRequest::Top(PlaysAsked { rack, .. }) => Ok(!is_rack(rt, rack)?),
-        GameRequest::Judge { .. } | GameRequest::Sheet(_) => Ok(false),
+    match asked {
+        Asked::OfOne(Task::Top { rack, .. }) => Ok(!is_rack(rt, rack)?),
+        _ => Ok(false),
     }
 }
 
@@ -127,12 +126,13 @@ fn answer_in<'a, R: Runtime + AllocGlobal>(
     request: GameRequest<'a>,
     form: Form,
 ) -> Result<Exit, Trouble<'a>> {
-    if names_no_rack(rt, request)? {
+    let GameRequest { asked, out } = request;
+    if names_no_rack(rt, asked)? {
         return refuse_rack(rt, files);
     }
-    match asked_of(request, form == Form::Object) {
-        Asked::OfOne(task) => answer_one(rt, files, task, request.out(), form),
-        Asked::WithAnother(second) => compare(rt, files, second, request.out(), form),
+    match asked {
+        Asked::OfOne(task) => answer_one(rt, files, task, out, form),
+        Asked::WithAnother(second) => compare(rt, files, second, out, form),
     }
 }
 

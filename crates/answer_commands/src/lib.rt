@@ -12,7 +12,6 @@ mod forms;
 mod kept_files;
 mod pairs;
 mod reports;
-mod tasks;
 mod tops;
 
 pub use answering::answer_game;

@@ -33,7 +33,7 @@ fn refuse_word<'a, R: Runtime + AllocGlobal>(rt: &R, text: &str) -> Result<Exit,
         return Err(Trouble::NoMemory);
     };
     write(rt, printed.report.as_slice())?;
-    let _ = rt.eprintln(format_args!("{PROGRAM_NAME}: {text:?} is no word of 2 to 15 letters"));
+    let _ = rt.eprintln(format_args!("{PROGRAM_NAME}: {text:?} is not a word of 2 to 15 letters"));
     Ok(exit_of_reply(&reply))
 }
 

@@ -8,9 +8,7 @@ use Rattle.ref_tiles.specs.Kinds.{kind_byte}
 use Rattle.fault_names.specs.declared.named.NamedFault.{NamedFault}
 use Rattle.fault_names.specs.Named.{named_fault}
 use Rattle.fault_names.specs.Names.{name_text}
-use Rattle.fault_names.specs.Inputs.{fault_name_of, path_of}
 use Rattle.call_stages.specs.declared.verdicts.GameFault.{GameFault}
-use Rattle.call_stages.specs.declared.input_faults.InputFault.{InputFault}
 
 -- a kind of tile: a capital, or '?' for a blank
 abbrev pub tile_value : Kind → Json

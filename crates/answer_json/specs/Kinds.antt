@@ -1,5 +1,4 @@
 -- What goes with the kind of an event.
-use Rattle.std.specs.Prelude.{ℕ, List}
 use Rattle.json.specs.Json.{Json, null, string}
 use Rattle.json_trees.specs.Values.{count}
 use Rattle.gcg_read.specs.declared.events.EventKind.{EventKind}

@@ -1,5 +1,5 @@
 -- Players, and who of them is ahead, as objects.
-use Rattle.std.specs.Prelude.{ℕ, ℤ, pos, List, [], ◌∷◌, codes}
+use Rattle.std.specs.Prelude.{ℤ, pos, List, [], ◌∷◌, codes}
 use Rattle.json.specs.Json.{Json, null}
 use Rattle.json_trees.specs.Values.{Field, array_of, count, integer, object_of}
 use Rattle.game_sheets.specs.declared.standings.Standing.{Standing}

@@ -1,12 +1,12 @@
 -- What is kept of the sheet of a game.
-use Rattle.std.proofs.Common.{◌≡◌, ℕ, Bool, List, Option, Some, None, sym, subst}
+use Rattle.std.proofs.Common.{◌≡◌, ℕ, Bool, List, Option, sym, subst}
 use Rattle.std.specs.Borrow.{Bor}
 use Rattle.ref_tiles.specs.declared.rulebook.Rules.{Rules}
 use Rattle.game_case.specs.declared.explains.Case.{Case}
 use Rattle.repair_answers.specs.declared.likely.Likely.{Likely}
 use Rattle.page_answers.specs.declared.makers.Maker.{Maker}
 use Rattle.archive_answers.specs.declared.sheets.GameSheet.{GameSheet}
-use Rattle.archive_answers.specs.Sheets.{has_page, IsKept, IsSheetOf}
+use Rattle.archive_answers.specs.Sheets.{IsKept, IsSheetOf}
 
 -- by whether there is a page
 pub kept_by : (paged known : Bool) (asked : Bool) (maker : Maker) (rules : Rules) (list : List (List ℕ)) (text : List ℕ) (case : Case) (likely : Option Likely) (sheet : GameSheet)

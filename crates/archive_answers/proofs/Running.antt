@@ -1,5 +1,5 @@
 -- What a run has told, from its parts.
-use Rattle.std.proofs.Common.{◌≡◌, ◌∙◌, inl, inr, ℕ, max, Bool, true, false, List, [], ◌∷◌, ◌++◌, is_some, Result, Ok, Err, OnOk, refl, sym, ap, subst}
+use Rattle.std.proofs.Common.{◌≡◌, ◌∙◌, inl, inr, ℕ, max, Bool, List, is_some, Result, Ok, Err, OnOk, refl, sym, ap, subst}
 use Rattle.std.specs.Borrow.{Bor}
 use Rattle.exit_statuses.specs.declared.exits.Exit.{Exit}
 use Rattle.exit_statuses.specs.Exits.{status_of}
@@ -9,8 +9,8 @@ use Rattle.archive_lines.specs.declared.pages.PageField.TheVariants as field
 use Rattle.archive_answers.specs.declared.asked.Asked.{Asked}
 use Rattle.archive_answers.specs.declared.games.ArchivedGame.{ArchivedGame}
 use Rattle.archive_answers.specs.declared.runs.RunLines.{RunLines}
-use Rattle.archive_answers.specs.Exits.{status_of_line, EndsAfter}
-use Rattle.archive_answers.specs.Games.{IsUnreadGame, with_page}
+use Rattle.archive_answers.specs.Exits.{status_of_line}
+use Rattle.archive_answers.specs.Games.{IsUnreadGame}
 use Rattle.archive_answers.specs.Runs.{IsLine, HasLine, without_page, IsLostGame, HasLineOf}
 use Rattle.archive_answers.proofs.Greatest.{one_more}
 

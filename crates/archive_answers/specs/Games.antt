@@ -1,5 +1,5 @@
 -- What is told of one game of an archive.
-use Rattle.std.specs.Prelude.{◌≡◌, ℕ, Bool, false, List, is_some, Option, Some, None}
+use Rattle.std.specs.Prelude.{◌≡◌, ℕ, false, List, is_some, Option, Some}
 use Rattle.std.specs.Borrow.{Bor}
 use Rattle.ref_tiles.specs.declared.rulebook.Rules.{Rules}
 use Rattle.game_case.specs.declared.explains.Case.{Case}

@@ -10,7 +10,6 @@ use Rattle.game_case.specs.declared.findings.Finding.TheVariants as finding
 use Rattle.repair_answers.specs.declared.likely.Likely.{Likely}
 use Rattle.archive_lines.specs.declared.pages.PageField.{PageField}
 use Rattle.archive_lines.specs.declared.pages.PageField.TheVariants as field
-use Rattle.page_answers.specs.declared.cases.PagedCase.{PagedCase}
 use Rattle.page_answers.specs.declared.makers.Maker.{Maker}
 use Rattle.page_answers.specs.Pages.{IsPagedCase}
 use Rattle.archive_answers.specs.declared.sheets.GameSheet.{GameSheet}

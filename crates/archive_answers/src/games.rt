@@ -74,6 +74,8 @@ fn tell_case<'n>(
 ///
 /// The input is read to its end, or to one byte past 1 MiB and no further.
 ///
+/// The fields, the likely repair, the page and what the index says are of the bytes that the input gave.
+///
 /// # Errors
 ///
 /// `ReadFailed` comes only if the input failed; `NoMemory` if memory was refused.

@@ -67,6 +67,8 @@ impl RunLines {
     /// Makes the line of one more game, or that there was no memory for it, and counts its status.
     ///
     /// It fails only if memory runs out for either.
+    ///
+    /// The status after it is the greatest of those of the lines.
     pub fn add(
         &mut self,
         alloc: Global,

@@ -66,7 +66,7 @@ struct LikelyRead {
 }
 
 impl LineRead {
-    /// What a line without its LF says, in either form; none if it is not a line of an archive.
+    /// What a line without its LF says, in either form; none if it is not a line of an archive. What it makes of the fields is tested.
     ///
     /// # Errors
     ///

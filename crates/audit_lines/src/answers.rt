@@ -55,6 +55,9 @@ fn answer_of(
 ///
 /// The input is read to its end, or to one byte past 1 MiB and no further.
 ///
+/// A bonus or a penalty that it gives is the first repair of the record and costs less than correcting only the numbers; that one is found is tested,
+/// not promised.
+///
 /// # Errors
 ///
 /// `ReadFailed` comes only if the input failed; `NoMemory` if memory was refused.

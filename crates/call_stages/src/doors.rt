@@ -89,7 +89,8 @@ fn ask_by_rules<S, W: Input, L: Input, G, Q: Question<S, W, G>>(
 ///
 /// # Errors
 ///
-/// If an input failed or memory was refused.
+/// If an input failed or memory was refused. `ReadFailed` comes only if the count of failures of one input rose and the others worked, and `NoMemory`
+/// only if all worked.
 pub fn ask<S: RulesSource, W: Input, L: Input, G, Q: Question<S, W, G>>(
     alloc: Global,
     question: &Q,

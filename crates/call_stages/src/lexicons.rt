@@ -46,7 +46,7 @@ pub fn open_within(bytes: &[u8]) -> Result<LexFile<'_>, FileFault>
 ///
 /// # Errors
 ///
-/// If the input failed or memory was refused.
+/// If the input failed or memory was refused. `ReadFailed` comes only if the count of failures of that input rose, and `NoMemory` only if it did not.
 #[tactic(auto, using(crate::proofs::Readings::whole, crate::proofs::Readings::failed))]
 pub fn read_lexicon<L: Input>(alloc: Global, lexicon: &mut L) -> Result<Vec<u8>, RunFault>
     requires { HasRoom (L.device lexicon.old) }
@@ -76,7 +76,8 @@ fn refused<'a>(
     Ok(Err(decision))
 }
 
-/// A word list and the lexicon of these bytes, or the verdict that they are not the lexicon of the list.
+/// A word list and the lexicon of these bytes, or the verdict that they are not the lexicon of the list. There is a pair exactly if the bytes are the
+/// lexicon of the list; else the verdict has the line of what is wrong first.
 #[tactic(auto, using(crate::proofs::Pairings::bad_form, crate::proofs::Pairings::is_missing, crate::proofs::Pairings::is_extra, crate::proofs::Pairings::is_miscounted, crate::proofs::Pairings::is_agreed))]
 pub fn pair_file<'a>(
     alloc: Global,

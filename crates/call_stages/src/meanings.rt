@@ -26,7 +26,8 @@ fn bad_list(alloc: Global, fault: &ListFault) -> Result<Decision, AllocError>
     Decision::refused(alloc, InputFault::Words(*fault))
 }
 
-/// The word list of a text, or the verdict that it is not one.
+/// The word list of a text, or the verdict that it is not one. There is a list exactly if the text means one; else the verdict names the line of its
+/// first fault.
 #[tactic(auto, using(crate::proofs::Readings::no_list))]
 pub fn list_from(alloc: Global, text: &[u8]) -> Result<Result<WordList, Decision>, AllocError>
     ensures { IfOk result (λ read. IsListOf text.now read) }
@@ -47,7 +48,7 @@ pub fn list_from(alloc: Global, text: &[u8]) -> Result<Result<WordList, Decision
 ///
 /// # Errors
 ///
-/// If the input failed or memory was refused.
+/// If the input failed or memory was refused. `ReadFailed` comes only if the count of failures of that input rose, and `NoMemory` only if it did not.
 pub fn read_list<W: Input>(
     alloc: Global,
     words: &mut W,
@@ -66,7 +67,8 @@ fn bad_rules(alloc: Global, fault: &RulesFault) -> Result<Decision, AllocError>
     Decision::refused(alloc, InputFault::Rules(*fault))
 }
 
-/// The rules of a text, or the verdict that it states none.
+/// The rules of a text, or the verdict that it states none. There are rules exactly if the text means some; else the verdict names the line of its
+/// first fault.
 pub fn rules_from(alloc: Global, text: &[u8]) -> Result<Result<Rules, Decision>, AllocError>
     ensures { IfOk result (λ read. AreRulesOf text.now read) }
 {
@@ -84,7 +86,7 @@ pub fn rules_from(alloc: Global, text: &[u8]) -> Result<Result<Rules, Decision>,
 ///
 /// # Errors
 ///
-/// If the input failed or memory was refused.
+/// If the input failed or memory was refused. `ReadFailed` comes only if the count of failures of that input rose, and `NoMemory` only if it did not.
 pub fn read_rules<R: Input>(
     alloc: Global,
     rules_text: &mut R,
@@ -103,7 +105,7 @@ fn bad_record(alloc: Global, fault: &ReadFault) -> Result<Decision, AllocError>
     Decision::refused(alloc, InputFault::Game(*fault))
 }
 
-/// The record of a text, or its first fault.
+/// The record of a text, or its first fault. There is a record exactly if the text means one.
 #[tactic(auto, using(crate::proofs::Readings::no_game))]
 pub fn game_from(alloc: Global, text: &[u8]) -> Result<Result<Record, ReadFault>, AllocError>
     ensures { IfOk result (λ read. read ≡ record_of text.now) }
@@ -118,7 +120,8 @@ pub fn game_from(alloc: Global, text: &[u8]) -> Result<Result<Record, ReadFault>
     Ok(Err(fault))
 }
 
-/// The record of a text, or the verdict that it is not one.
+/// The record of a text, or the verdict that it is not one. There is a record exactly if the text means one; else the verdict names the line of its
+/// first fault.
 #[tactic(auto, using(crate::proofs::Readings::no_record))]
 pub fn record_from(alloc: Global, text: &[u8]) -> Result<Result<Record, Decision>, AllocError>
     ensures { IfOk result (λ read. IsRecordOf text.now read) }
@@ -136,7 +139,7 @@ pub fn record_from(alloc: Global, text: &[u8]) -> Result<Result<Record, Decision
 ///
 /// # Errors
 ///
-/// If the input failed or memory was refused.
+/// If the input failed or memory was refused. `ReadFailed` comes only if the count of failures of that input rose, and `NoMemory` only if it did not.
 pub fn read_record<G: Input>(
     alloc: Global,
     game: &mut G,

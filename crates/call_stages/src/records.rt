@@ -49,7 +49,7 @@ pub trait GameQuestion {
 ///
 /// # Errors
 ///
-/// If the input failed or memory was refused.
+/// If the input failed or memory was refused. `ReadFailed` comes only if the count of failures of that input rose, and `NoMemory` only if it did not.
 pub fn decide_by_pair<Q: GameQuestion, G: Input>(
     alloc: Global,
     question: &Q,

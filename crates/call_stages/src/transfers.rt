@@ -45,7 +45,8 @@ fn send<O: Output>(out: &mut O, decision: &Decision) -> Result<Verdict, RunFault
     }
 }
 
-/// Writes the report of what was decided, and gives its verdict; if nothing was decided, says why, and writes nothing.
+/// Writes the report of what was decided, and gives its verdict; if nothing was decided, says why, and writes nothing. After `WriteFailed` a prefix
+/// of the report was written.
 pub fn finish<O: Output>(
     out: &mut O,
     decided: Result<Decision, RunFault>,

@@ -134,6 +134,9 @@ fn explained(
 /// What explains the verdict on a record, or its event on a line or after it, by the walk over the record; none if there is no event.
 ///
 /// It fails only if memory runs out.
+///
+/// The first fact about the first event that the rules refuse is that of the fault; an event after it has the fact that it was not judged, and no
+/// other; no event is without a fact. That the facts are all that is to be said is tested.
 #[tactic(auto, using(crate::proofs::Places::fault_within, crate::proofs::Places::explains_whole, crate::proofs::Places::explains_at, crate::proofs::Places::asked_none, crate::proofs::Places::asked_some))]
 pub fn explain(
     alloc: Global,

@@ -94,7 +94,7 @@ pub fn advise_bad_record<R: Runtime + AllocGlobal>(rt: &R, name: &str, game: &Fr
     advise_more(
         rt,
         name,
-        "lines that begin with > and are no events",
+        "lines that begin with > and are not events",
         others.len(),
     );
 }

@@ -97,7 +97,7 @@ pub fn tell_others<R: Runtime + AllocGlobal, S: Read + Drop>(
     }
     if let Ok(text) = String::from_utf8_lossy(rt.alloc(), text) {
         let _ = rt.eprintln(format_args!(
-            "{PROGRAM_NAME}: {}: lines that are no words, passed over: {count}; the first is line {line}, {text:?}",
+            "{PROGRAM_NAME}: {}: lines that are not words, passed over: {count}; the first is line {line}, {text:?}",
             shown(name)
         ));
     }

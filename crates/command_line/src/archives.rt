@@ -2,7 +2,6 @@
 
 use crate::files::{PairFiles, pair_files};
 use clap::ArgMatches;
-use std::alloc::{AllocError, Global};
 
 /// Where the names of the games of an archive are.
 #[derive(Drop)]
@@ -57,19 +56,14 @@ pub struct Archive<'a> {
     pub progress: Progressing,
 }
 
-/// What the matches of `archive` ask for.
-pub fn archive_of<'a>(
-    alloc: Global,
-    names: &ArgMatches<'a>,
-) -> Result<Option<Archive<'a>>, AllocError> {
-    let Some(pair) = pair_files(names) else {
-        return Ok(None);
-    };
+/// What the matches of `archive` ask for; `games` are the records that they name.
+pub fn archive_of<'a>(names: &ArgMatches<'a>, games: Vec<&'a str>) -> Option<Archive<'a>> {
+    let pair = pair_files(names)?;
     let games = match names.get_str("names") {
         Some(file) => ArchiveNames::Listed(file),
-        None => ArchiveNames::Given(Vec::from_slice(alloc, names.get_strs("GAME").unwrap_or(&[]))?),
+        None => ArchiveNames::Given(games),
     };
-    Ok(Some(Archive {
+    Some(Archive {
         rules: names.get_str("rules"),
         pair,
         names: games,
@@ -79,7 +73,7 @@ pub fn archive_of<'a>(
         pages: names.get_str("pages"),
         repairs: names.get_flag("repairs"),
         progress: wanted_progress(names),
-    }))
+    })
 }
 
 /// What the command line says of the progress of a run.

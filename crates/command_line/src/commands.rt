@@ -1,5 +1,5 @@
-//! The commands that the program knows: what help says of each, and its arguments. A command is added by its row here, and by its case
-//! and its row in `tasks.rt` if it is about the game of a record, or in `requests.rt`.
+//! The commands that the program knows: a row for each, with what help says of it, its arguments, and what it asks for. A command is added by its row
+//! here; it compiles once its case has an arm in `tasks.rt`, if it is about the game of a record, or in `requests.rt`.
 
 use crate::arguments::{Argument, Form};
 use clap::Command;
@@ -7,19 +7,19 @@ use clap::builder::ValueParser;
 use std::alloc::{AllocError, Global};
 
 /// What `--version` prints after the program's name.
-pub const VERSION: &str = "1.1.0
+pub const VERSION: &str = "1.2.0
 records: GCG
 word lists: one word a line
 lexicons: GAD1, GAD2";
 
 /// What `-V` prints after the program's name.
-pub const SHORT_VERSION: &str = "1.1.0";
+pub const SHORT_VERSION: &str = "1.2.0";
 
 /// The name of the program. Its messages begin with it.
 pub const PROGRAM_NAME: &str = "referee";
 
 /// The name and the version of the program.
-pub const PROGRAM: &str = "referee 1.1.0";
+pub const PROGRAM: &str = "referee 1.2.0";
 
 /// The name of the option that makes the program read only the first field of each line of a word list.
 pub const FIRST_FIELD: &str = "first-field";
@@ -36,10 +36,43 @@ pub const MOST_REPAIRS: u32 = 100;
 /// How many repairs are listed if no number is given.
 pub const FEW_REPAIRS: u32 = 10;
 
+/// What a command asks for.
+#[derive(Clone, Copy)]
+pub enum Asks {
+    /// An answer about the game of a record.
+    Game(GameCommand),
+    Archive,
+    Index,
+    Build,
+    Check,
+    Convert,
+    Tidy,
+    Board,
+    Serve,
+    Word,
+    Rules,
+}
+
+/// The commands that are about the game of a record.
+#[derive(Clone, Copy)]
+pub enum GameCommand {
+    Judge,
+    Audit,
+    Fill,
+    Explain,
+    Repair,
+    Compare,
+    Page,
+    Annotate,
+    Top,
+}
+
 /// A command.
 #[derive(Clone, Copy)]
 struct CommandRow {
     name: &'static str,
+    /// What it asks for.
+    asks: Asks,
     /// What help says of it.
     about: &'static str,
     /// What help says after its arguments: an example, and the exit statuses.
@@ -72,6 +105,12 @@ pub fn command<'a>(alloc: Global) -> Result<Command<'a>, AllocError> {
         command = command.subcommand(row.build(alloc)?)?;
     }
     Ok(command)
+}
+
+/// What the command of this name asks for.
+pub fn asks_of(name: &str) -> Option<Asks> {
+    let row = COMMANDS.iter().find(|row| row.name == name)?;
+    Some(row.asks)
 }
 
 /// An argument whose value may be any text.
@@ -196,6 +235,7 @@ const COMMANDS: [CommandRow; 19] = [
 /// `judge [--first-field] [--skip-others] [--settle] [--json] [--rules FILE] WORDS LEXICON GAME`.
 const JUDGE: CommandRow = CommandRow {
     name: "judge",
+    asks: Asks::Game(GameCommand::Judge),
     about: "Judges a game, and prints the best play of each turn",
     behind: behind!(
         "referee judge --settle words.txt words.gad game.gcg",
@@ -224,6 +264,7 @@ const JUDGE: CommandRow = CommandRow {
 /// `archive [--first-field] [--skip-others] [--rules FILE] [--names FILE] [--null] [--skip LINES] [--json] [--pages FOLDER] [--repairs] [--progress|--quiet] WORDS LEXICON [GAME...]`.
 const ARCHIVE: CommandRow = CommandRow {
     name: "archive",
+    asks: Asks::Archive,
     about: "Judges many games as judge --settle does, one line for each",
     behind: behind!(
         "referee archive --names names.txt words.txt words.gad",
@@ -289,6 +330,7 @@ const ARCHIVE: CommandRow = CommandRow {
 /// `index LINES OUT`.
 const INDEX: CommandRow = CommandRow {
     name: "index",
+    asks: Asks::Index,
     about: "Writes the index of the pages of one run of archive, or of many",
     behind: behind!(
         "referee index lines.tsv index.html",
@@ -313,6 +355,7 @@ const INDEX: CommandRow = CommandRow {
 /// `audit [--first-field] [--skip-others] [--json] [--rules FILE] [--corrected OUT] WORDS LEXICON GAME`.
 const AUDIT: CommandRow = CommandRow {
     name: "audit",
+    asks: Asks::Game(GameCommand::Audit),
     about: "Prints every wrong score and sum of a sheet, and can write the corrected record",
     behind: behind!(
         "referee audit --corrected right.gcg words.txt words.gad game.gcg",
@@ -344,6 +387,7 @@ const AUDIT: CommandRow = CommandRow {
 /// `fill [--first-field] [--skip-others] [--json] [--rules FILE] [--next] WORDS LEXICON DRAFT [OUT]`.
 const FILL: CommandRow = CommandRow {
     name: "fill",
+    asks: Asks::Game(GameCommand::Fill),
     about: "Puts the scores and totals that are missing into a draft of a record, and writes the record",
     behind: behind!(
         "referee fill words.txt words.gad draft.gcg game.gcg",
@@ -384,6 +428,7 @@ const FILL: CommandRow = CommandRow {
 /// `explain [--first-field] [--skip-others] [--json] [--rules FILE] WORDS LEXICON GAME [LINE]`.
 const EXPLAIN: CommandRow = CommandRow {
     name: "explain",
+    asks: Asks::Game(GameCommand::Explain),
     about: "Explains the verdict on a game, or one of its lines, in plain words",
     behind: behind!(
         "referee explain words.txt words.gad game.gcg",
@@ -415,6 +460,7 @@ const EXPLAIN: CommandRow = CommandRow {
 /// `repair [--first-field] [--skip-others] [--json] [--rules FILE] [--number N] [--repaired OUT] WORDS LEXICON GAME`.
 const REPAIR: CommandRow = CommandRow {
     name: "repair",
+    asks: Asks::Game(GameCommand::Repair),
     about: "Lists the single changes of a faulty record after which it is a game, the likeliest first",
     behind: behind!(
         "referee repair words.txt words.gad game.gcg",
@@ -454,6 +500,7 @@ const REPAIR: CommandRow = CommandRow {
 /// `compare [--first-field] [--skip-others] [--json] [--rules FILE] [--merged OUT] WORDS LEXICON SHEET1 SHEET2`.
 const COMPARE: CommandRow = CommandRow {
     name: "compare",
+    asks: Asks::Game(GameCommand::Compare),
     about: "Compares two players' sheets of one game, and says which lines the rules support where they differ",
     behind: behind!(
         "referee compare words.txt words.gad anna.gcg ben.gcg",
@@ -490,6 +537,7 @@ const COMPARE: CommandRow = CommandRow {
 /// `page [--first-field] [--skip-others] [--rules FILE] WORDS LEXICON GAME OUT`.
 const PAGE: CommandRow = CommandRow {
     name: "page",
+    asks: Asks::Game(GameCommand::Page),
     about: "Writes a game as a web page: its verdict, its board and its sheet",
     behind: behind!(
         "referee page words.txt words.gad game.gcg game.html",
@@ -517,6 +565,7 @@ const PAGE: CommandRow = CommandRow {
 /// `annotate [--first-field] [--skip-others] [--rules FILE] [--top N] WORDS LEXICON GAME [OUT]`.
 const ANNOTATE: CommandRow = CommandRow {
     name: "annotate",
+    asks: Asks::Game(GameCommand::Annotate),
     about: "Writes a record with a note after each turn: the best play, and how many points more it gives",
     behind: behind!(
         "referee annotate words.txt words.gad game.gcg annotated.gcg",
@@ -552,6 +601,7 @@ const ANNOTATE: CommandRow = CommandRow {
 /// `build [--first-field] [--skip-others] WORDS OUT`.
 const BUILD: CommandRow = CommandRow {
     name: "build",
+    asks: Asks::Build,
     about: "Writes the compiled lexicon of a word list",
     behind: behind!(
         "referee build words.txt words.gad",
@@ -565,6 +615,7 @@ const BUILD: CommandRow = CommandRow {
 /// `check [--first-field] [--skip-others] [--json] WORDS LEXICON`.
 const CHECK: CommandRow = CommandRow {
     name: "check",
+    asks: Asks::Check,
     about: "Says whether a file is exactly the lexicon of a word list",
     behind: behind!(
         "referee check words.txt words.gad",
@@ -584,6 +635,7 @@ const CHECK: CommandRow = CommandRow {
 /// `word [--each] [--first-field] [--skip-others] WORDS LEXICON WORD...`.
 const WORD: CommandRow = CommandRow {
     name: "word",
+    asks: Asks::Word,
     about: "Says whether words that are challenged are acceptable: whether all of them are in the list",
     behind: behind!(
         "referee word words.txt words.gad able about",
@@ -609,6 +661,7 @@ const WORD: CommandRow = CommandRow {
 /// `convert FORMAT LEXICON OUT`.
 const CONVERT: CommandRow = CommandRow {
     name: "convert",
+    asks: Asks::Convert,
     about: "Writes a lexicon in the format gad1 or gad2",
     behind: behind!(
         "referee convert gad2 words.gad words.gad2",
@@ -629,6 +682,7 @@ const CONVERT: CommandRow = CommandRow {
 /// `top [--first-field] [--skip-others] [--json] [--rules FILE] [--number N] [--before LINE] WORDS LEXICON GAME [RACK]`.
 const TOP: CommandRow = CommandRow {
     name: "top",
+    asks: Asks::Game(GameCommand::Top),
     about: "Prints the best plays with RACK after the last event of a record, or before one of its lines",
     behind: behind!(
         "referee top --number 3 --before 12 words.txt words.gad game.gcg",
@@ -668,6 +722,7 @@ const TOP: CommandRow = CommandRow {
 /// `tidy GAME`.
 const TIDY: CommandRow = CommandRow {
     name: "tidy",
+    asks: Asks::Tidy,
     about: "Prints the players and events of a record in one normal form",
     behind: behind!(
         "referee tidy game.gcg",
@@ -681,6 +736,7 @@ const TIDY: CommandRow = CommandRow {
 /// `board [--json] [--rules FILE] [--before LINE] GAME`.
 const BOARD: CommandRow = CommandRow {
     name: "board",
+    asks: Asks::Board,
     about: "Shows the board after the last event of a record, or before one of its lines",
     behind: behind!(
         "referee board --before 12 game.gcg",
@@ -694,6 +750,7 @@ const BOARD: CommandRow = CommandRow {
 /// `serve [--first-field] [--skip-others] [--rules FILE] WORDS LEXICON`.
 const SERVE: CommandRow = CommandRow {
     name: "serve",
+    asks: Asks::Serve,
     about: "Answers the requests of a program, one JSON object a line, until standard input ends",
     behind: behind!(
         "referee serve words.txt words.gad",
@@ -713,6 +770,7 @@ const SERVE: CommandRow = CommandRow {
 /// `rules`.
 const ENGLISH_RULES: CommandRow = CommandRow {
     name: "rules",
+    asks: Asks::Rules,
     about: "Prints the English rules as a rules text, from which others can be made",
     behind: behind!("referee rules", "Exit status:", "0   the text is printed"),
     arguments: &[],

@@ -12,4 +12,4 @@ pub use archives::{Archive, ArchiveNames, Progressing};
 pub use commands::{MOST_PLAYS, PROGRAM, PROGRAM_NAME, SHORT_VERSION};
 pub use files::{GameFiles, PairFiles, STANDARD_INPUT, STANDARD_OUTPUT_NAME, WordsFile};
 pub use requests::{Request, mistake, parse_arguments};
-pub use tasks::{CaseTask, GameRequest, PlaysAsked, SheetTask};
+pub use tasks::{Asked, GameRequest};

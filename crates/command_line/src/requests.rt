@@ -1,7 +1,7 @@
 //! What a command line asks for.
 
 use crate::archives::{Archive, archive_of};
-use crate::commands::command;
+use crate::commands::{Asks, GameCommand, asks_of, command};
 use crate::files::{
     GameFiles, PairFiles, STANDARD_INPUT, WordsFile, game_files, pair_files, words_file,
 };
@@ -77,14 +77,24 @@ pub enum Request<'a> {
 /// its text.
 pub fn parse_arguments<'a>(alloc: Global, arguments: &'a [String]) -> Result<Request<'a>, Error> {
     let matches = command(alloc)?.try_get_matches_from(arguments)?;
-    if reads_twice(&matches) {
+    match request_in(alloc, &matches)? {
+        Some(request) => Ok(request),
+        None => Err(mistake(alloc, "a command with its names is needed")),
+    }
+}
+
+/// What the matches of a parse ask for: there is always something, since every argument is required.
+fn request_in<'a>(alloc: Global, matches: &ArgMatches<'a>) -> Result<Option<Request<'a>>, Error> {
+    let Some((name, names)) = matches.subcommand() else {
+        return Ok(None);
+    };
+    let Some(asks) = asks_of(name) else {
+        return Ok(None);
+    };
+    if reads_twice(asks, names) {
         return Err(mistake(alloc, "standard input can be read only once"));
     }
-    match request_of(alloc, &matches) {
-        Ok(Some(request)) => Ok(request),
-        Ok(None) => Err(mistake(alloc, "a command with its names is needed")),
-        Err(refused) => Err(Error::from(refused)),
-    }
+    Ok(request_of(asks, names, several(alloc, names)?))
 }
 
 /// An error of a command line that the program found itself.
@@ -98,13 +108,9 @@ pub fn mistake(alloc: Global, text: &str) -> Error {
     }
 }
 
-/// Whether more than one of the names in a command line is that of standard input.
-fn reads_twice(matches: &ArgMatches<'_>) -> bool {
-    let Some((command, names)) = matches.subcommand() else {
-        return false;
-    };
-    // `serve` reads its requests from standard input.
-    let requests: usize = if command == "serve" { 1 } else { 0 };
+/// Whether more than one of the names in a command line is that of standard input. `serve` reads its requests from there.
+fn reads_twice(asks: Asks, names: &ArgMatches<'_>) -> bool {
+    let requests: usize = if matches!(asks, Asks::Serve) { 1 } else { 0 };
     let times = [
         "WORDS", "GAME", "SHEET1", "SHEET2", "DRAFT", "names", "skip", "LINES",
     ]
@@ -124,41 +130,49 @@ fn times_read(names: &ArgMatches<'_>, id: &str) -> usize {
         .count()
 }
 
-/// What the matches of a parse ask for: there is always something, since every argument is required.
+/// The values of the argument of a command that may have many: words, or records.
+fn several<'a>(alloc: Global, names: &ArgMatches<'a>) -> Result<Vec<&'a str>, AllocError> {
+    let values = names.get_strs("WORD").or(names.get_strs("GAME"));
+    Vec::from_slice(alloc, values.unwrap_or(&[]))
+}
+
+/// What the matches of a command ask for, the values of an argument that may have many apart.
 fn request_of<'a>(
-    alloc: Global,
-    matches: &ArgMatches<'a>,
-) -> Result<Option<Request<'a>>, AllocError> {
-    let Some((command, names)) = matches.subcommand() else {
-        return Ok(None);
-    };
-    match command {
-        "archive" => match archive_of(alloc, names) {
-            Ok(Some(games)) => Ok(Some(Request::Archive(games))),
-            Ok(None) => Ok(None),
-            Err(refused) => Err(refused),
-        },
-        "word" => word_of(alloc, names),
-        "build" | "check" | "convert" => Ok(lexicon_request_of(command, names)),
-        "index" | "tidy" | "board" | "serve" | "rules" => Ok(other_request_of(command, names)),
-        _ => Ok(request_about_game(command, names)),
+    asks: Asks,
+    names: &ArgMatches<'a>,
+    several: Vec<&'a str>,
+) -> Option<Request<'a>> {
+    match asks {
+        Asks::Game(command) => request_about_game(command, names),
+        Asks::Archive => Some(Request::Archive(archive_of(names, several)?)),
+        Asks::Index => Some(Request::Index {
+            lines: names.get_str("LINES")?,
+            out: names.get_str("OUT")?,
+        }),
+        Asks::Build => Some(Request::Build {
+            words: words_file(names)?,
+            out: names.get_str("OUT")?,
+        }),
+        Asks::Check => Some(Request::Check {
+            json: names.get_flag("json"),
+            pair: pair_files(names)?,
+        }),
+        Asks::Convert => conversion_of(names),
+        Asks::Tidy => Some(Request::Tidy {
+            game: names.get_str("GAME")?,
+        }),
+        Asks::Board => board_of(names),
+        Asks::Serve => Some(Request::Serve {
+            rules: names.get_str("rules"),
+            pair: pair_files(names)?,
+        }),
+        Asks::Word => word_of(names, several),
+        Asks::Rules => Some(Request::Rules),
     }
 }
 
-/// What the matches of `word` ask for.
-fn word_of<'a>(alloc: Global, names: &ArgMatches<'a>) -> Result<Option<Request<'a>>, AllocError> {
-    let Some(pair) = pair_files(names) else {
-        return Ok(None);
-    };
-    Ok(Some(Request::Word {
-        pair,
-        each: names.get_flag("each"),
-        words: Vec::from_slice(alloc, names.get_strs("WORD").unwrap_or(&[]))?,
-    }))
-}
-
 /// What the matches of a command about the game of a record ask for.
-fn request_about_game<'a>(command: &str, names: &ArgMatches<'a>) -> Option<Request<'a>> {
+fn request_about_game<'a>(command: GameCommand, names: &ArgMatches<'a>) -> Option<Request<'a>> {
     Some(Request::Game {
         files: game_files(names)?,
         request: game_request_of(command, names)?,
@@ -166,56 +180,36 @@ fn request_about_game<'a>(command: &str, names: &ArgMatches<'a>) -> Option<Reque
     })
 }
 
-/// What the matches of a command about a lexicon ask for.
-fn lexicon_request_of<'a>(command: &str, names: &ArgMatches<'a>) -> Option<Request<'a>> {
-    match command {
-        "build" => Some(Request::Build {
-            words: words_file(names)?,
-            out: names.get_str("OUT")?,
-        }),
-        "check" => Some(Request::Check {
-            json: names.get_flag("json"),
-            pair: pair_files(names)?,
-        }),
-        "convert" => Some(Request::Convert {
-            format: format_of(names.get_str("FORMAT")?)?,
-            lexicon: names.get_str("LEXICON")?,
-            out: names.get_str("OUT")?,
-        }),
-        _ => None,
-    }
+/// What the matches of `convert` ask for.
+fn conversion_of<'a>(names: &ArgMatches<'a>) -> Option<Request<'a>> {
+    let format = match names.get_str("FORMAT")? {
+        "gad1" => Format::Gad1,
+        "gad2" => Format::Gad2,
+        _ => return None,
+    };
+    Some(Request::Convert {
+        format,
+        lexicon: names.get_str("LEXICON")?,
+        out: names.get_str("OUT")?,
+    })
 }
 
-/// What the matches of a command that asks neither about one game nor about a lexicon ask for.
-fn other_request_of<'a>(command: &str, names: &ArgMatches<'a>) -> Option<Request<'a>> {
-    match command {
-        "index" => Some(Request::Index {
-            lines: names.get_str("LINES")?,
-            out: names.get_str("OUT")?,
-        }),
-        "tidy" => Some(Request::Tidy {
-            game: names.get_str("GAME")?,
-        }),
-        "board" => Some(Request::Board {
-            rules: names.get_str("rules"),
-            before: names.get_one::<u32>("before"),
-            game: names.get_str("GAME")?,
-            json: names.get_flag("json"),
-        }),
-        "serve" => Some(Request::Serve {
-            rules: names.get_str("rules"),
-            pair: pair_files(names)?,
-        }),
-        "rules" => Some(Request::Rules),
-        _ => None,
-    }
+/// What the matches of `board` ask for.
+fn board_of<'a>(names: &ArgMatches<'a>) -> Option<Request<'a>> {
+    Some(Request::Board {
+        rules: names.get_str("rules"),
+        before: names.get_one::<u32>("before"),
+        game: names.get_str("GAME")?,
+        json: names.get_flag("json"),
+    })
 }
 
-/// The format of this name.
-fn format_of(name: &str) -> Option<Format> {
-    match name {
-        "gad1" => Some(Format::Gad1),
-        "gad2" => Some(Format::Gad2),
-        _ => None,
-    }
+/// What the matches of `word` ask for.
+fn word_of<'a>(names: &ArgMatches<'a>, words: Vec<&'a str>) -> Option<Request<'a>> {
+    let pair = pair_files(names)?;
+    Some(Request::Word {
+        pair,
+        each: names.get_flag("each"),
+        words,
+    })
 }

@@ -83,6 +83,13 @@ fn answer_on(
 /// Compares two records of one game, by the rules and a word list.
 ///
 /// It fails only if memory runs out.
+///
+/// The second sheet's players are put in the seats of the first one's. The sheets agree exactly if no line and no racks differ and nothing is wrong
+/// on either. Of each pair of lines it says which of them the best choice takes, what comes of the other one, and what the rules give if the scores
+/// differ; of racks which of them is taken, and why not that of the player's own sheet.
+///
+/// The merged record has the players of the first sheet and the right events of the best choice, if no choice is as good or left open, or else of the
+/// best repair, if it is ahead and nothing is left open; otherwise the value says why there is none.
 #[tactic(auto, using(crate::proofs::Answering::is_comparison_answer))]
 pub fn answer_comparison(
     alloc: Global,

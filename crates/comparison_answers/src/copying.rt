@@ -1,49 +1,9 @@
-//! Copies of events and of players.
+//! Copies of players and of records.
 ghost use Rattle.std.specs.Prelude.{◌≡◌, take, IfOk};
 
-use gcg_read::{Event, EventKind, Events, Name, Player, Players, Record, Text};
+use gcg_read::{Event, Events, Name, Player, Players, Record};
+use sheet_alignments::copy_event;
 use std::alloc::{AllocError, Global};
-
-/// A copy of the text.
-fn copy_text(text: &Text) -> Text
-    ensures { result ≡ text.now }
-{
-    Text::new(text.as_slice()).unwrap()
-}
-
-/// A copy of the kind of an event.
-fn copy_kind(kind: &EventKind) -> EventKind
-    ensures { result ≡ kind.now }
-{
-    match kind {
-        EventKind::Play { at, dir, word } => EventKind::Play {
-            at: *at,
-            dir: *dir,
-            word: copy_text(word),
-        },
-        EventKind::Pass => EventKind::Pass,
-        EventKind::Exchange(tiles) => EventKind::Exchange(*tiles),
-        EventKind::ExchangeUnknown(number) => EventKind::ExchangeUnknown(*number),
-        EventKind::Withdraw => EventKind::Withdraw,
-        EventKind::Challenge => EventKind::Challenge,
-        EventKind::Time => EventKind::Time,
-        EventKind::LastRack(tiles) => EventKind::LastRack(*tiles),
-    }
-}
-
-/// A copy of the event.
-fn copy_event(event: &Event) -> Event
-    ensures { result ≡ event.now }
-{
-    Event {
-        line: event.line,
-        player: event.player,
-        rack: event.rack,
-        kind: copy_kind(&event.kind),
-        score: event.score,
-        total: event.total,
-    }
-}
 
 /// Copies of some events.
 fn copy_events(alloc: Global, events: &[Event]) -> Result<Events, AllocError>

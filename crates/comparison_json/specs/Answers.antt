@@ -1,5 +1,5 @@
 -- What is found of two sheets, as an object.
-use Rattle.std.specs.Prelude.{ℕ, ℤ, List, [], ◌∷◌, codes, map, Option, Some, None, option_map, Result, Ok, Err}
+use Rattle.std.specs.Prelude.{List, [], ◌∷◌, codes, map, Option, Some, None, option_map, Result, Ok, Err}
 use Rattle.json.specs.Json.{Json, boolean, null, string}
 use Rattle.json_trees.specs.Values.{Field, array_of, count, integer, object_of, or_null, text}
 use Rattle.gcg_read.specs.declared.events.Seat.{Seat}

@@ -1,9 +1,9 @@
 -- Choices of the lines as objects.
-use Rattle.std.specs.Prelude.{ℕ, ◌-◌, ◌&&◌, nat_le, nat_lt, Bool, true, false, List, [], ◌∷◌, codes, map, slice_get, Option, Some, None, option_map, if◌then◌else◌}
+use Rattle.std.specs.Prelude.{ℕ, ◌-◌, ◌&&◌, nat_le, nat_lt, Bool, true, false, List, [], ◌∷◌, codes, map, slice_get, Option, Some, None, if◌then◌else◌}
 use Rattle.std.specs.List.{filter_map, range_with_len}
 use Rattle.std.specs.Option.{option_and_then}
 use Rattle.json.specs.Json.{Json, null, string}
-use Rattle.json_trees.specs.Values.{Field, array_of, count, object_of, or_null}
+use Rattle.json_trees.specs.Values.{Field, array_of, count, object_of}
 use Rattle.gcg_read.specs.declared.events.Event.{Event}
 use Rattle.call_stages.specs.declared.verdicts.GameFault.{GameFault}
 use Rattle.call_stages.specs.declared.verdicts.GameFault.TheVariants as game

@@ -1,9 +1,9 @@
 -- Pairs of lines that are not the same, as objects.
-use Rattle.std.specs.Prelude.{ℕ, ◌&&◌, Bool, true, false, List, [], ◌∷◌, codes, length, slice_get, Option, Some, None, option_map, if◌then◌else◌}
+use Rattle.std.specs.Prelude.{ℕ, ◌&&◌, Bool, true, false, List, [], ◌∷◌, codes, length, slice_get, Option, Some, None, if◌then◌else◌}
 use Rattle.std.specs.List.{filter_map, range_with_len}
 use Rattle.std.specs.Option.{option_and_then}
 use Rattle.json.specs.Json.{Json, null, string}
-use Rattle.json_trees.specs.Values.{Field, array_of, count, integer, object_of, or_null, text}
+use Rattle.json_trees.specs.Values.{Field, array_of, count, integer, object_of, text}
 use Rattle.gcg_read.specs.declared.events.Event.{Event}
 use Rattle.gcg_read.specs.declared.records.Record.{Record}
 use Rattle.gcg_read.specs.Players.{player_of}

@@ -202,6 +202,8 @@ fn deal_of(alloc: Global, rules: &Rules, steps: &[Step]) -> Result<Option<Deal>,
 /// line asks for a tile that is then not on the rack, there is no deal. It fails only if memory runs out.
 ///
 /// If no step is an exchange and no bound is exceeded, there is a deal, and it fits.
+///
+/// It requires that the steps are those of a whole game.
 #[tactic(auto, using(crate::proofs::PlainDeals::plain_answer))]
 pub fn complete_steps(
     alloc: Global,

@@ -124,6 +124,9 @@ fn shows_too_many(rules: &Rules, steps: &[Step], cut: &Cut) -> bool
 /// Whether a cut proves that no racks fit the steps of a game.
 ///
 /// A cut has places before each of the first steps, and depends only on these steps: so no racks fit even these.
+///
+/// Nothing is required of the steps: if a board is not the one that the step before leaves, or a number is too large to be added up, nothing is
+/// inside.
 pub fn rules_out(rules: &Rules, steps: &[Step], cut: &Cut) -> bool
     ensures front { result ≡ true → HasNoDeal rules.now (take (vec_len cut.now.places) steps.now) }
     ensures whole { result ≡ true → HasNoDeal rules.now steps.now }

@@ -10,7 +10,7 @@ use std::alloc::Global;
 /// The greatest number of bytes that one read asks for.
 const CHUNK: usize = 65536;
 
-/// A source of bytes. It counts its failures.
+/// A source of bytes. It counts its failures: a read fails exactly if this count rises, by one.
 pub trait Input {
     /// The bytes that are left, if they are known, and how many reads have failed.
     ghost device: { Self → Device };

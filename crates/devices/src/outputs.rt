@@ -6,7 +6,7 @@ ghost use Rattle.devices.specs.Outputs.{Writes, SendsFront, WriteStops};
 
 use crate::failing::{DeviceFailed, WriteGaveUp};
 
-/// A sink of bytes. It counts its failures, and the writes that took no byte.
+/// A sink of bytes. It counts its failures, and the writes that took no byte: a write fails exactly if the count of failures rises, by one.
 pub trait Output {
     /// The bytes that were taken, if they are known, how many writes have failed, and how many writes of one or more
     /// bytes took none.

@@ -28,7 +28,7 @@ impl<R: Read + Drop> Digesting<R> {
         Digesting { inner, hasher }
     }
 
-    /// The SHA-256, as in FIPS 180-4, of the bytes that were given out so far, if they are digested.
+    /// The SHA-256, as in FIPS 180-4, of the bytes that were given out so far, if they are digested. That the foot of a page shows it is tested.
     pub fn digest(&self) -> Result<Option<[u8; 32]>, AllocError>
         ensures { IfOk result (λ digest. (bytes : List ℕ) → HasHandedOut self.now.hasher bytes
             → digest ≡ (if is_some self.now.hasher then Some (sha256 bytes) else None)) }

@@ -86,7 +86,7 @@ fn decide_board<G: Input>(
 }
 
 /// Writes the board of a record before the first event on a line or after it, or without a line after the last event, as a
-/// text of lines of at most 80 bytes.
+/// text. That no line of it has more than 80 bytes is tested.
 ///
 /// The record is read to its end, or to one byte past 1 MiB and no further. Its plays are laid one after the other, up to that
 /// event or to the first play whose text or placement has a fault; no other rule is checked. The text says which board it is,

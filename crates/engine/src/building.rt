@@ -54,6 +54,8 @@ fn decide_lexicon<W: Input>(alloc: Global, words: &mut W) -> Result<Decision, Ru
 /// The words are read to their end, or to one byte past 16 MiB and no further. What is written is made in memory before
 /// the first write.
 ///
+/// `TooManyArcs` comes only if the paths have more than 33,554,431 labels together.
+///
 /// # Errors
 ///
 /// `ReadFailed` and `WriteFailed` come only if that device failed, or a write took no byte; `NoMemory` if memory

@@ -49,9 +49,9 @@ fn decide_conversion<L: Input>(
 
 /// Converts a compiled lexicon into a format, and writes the bytes of the file, or the line of a fault.
 ///
-/// No word list is needed: the file has the language of the one that was read, whichever that is. The lexicon is read to
-/// its end, or to one byte past its limit of 268,435,468 bytes and no further; one over its limit has a wrong length,
-/// whatever its bytes are. What is written is made in memory before the first write.
+/// No word list is needed: the file has the language of the one that was read, whichever that is, and it need not be that
+/// of any list. The lexicon is read to its end, or to one byte past its limit of 268,435,468 bytes and no further; one over
+/// its limit has a wrong length, whatever its bytes are. What is written is made in memory before the first write.
 ///
 /// # Errors
 ///

@@ -65,9 +65,9 @@ pub fn run<W: Input, L: Input, G: Input, O: Output>(
 
 /// Judges a game from its record as [`run`] does, by the rules that a text states.
 ///
-/// The rules text is read before all other inputs, to its end, or to one byte past its limit of 65,536 bytes and no
-/// further. If it gives no rules, that is the verdict, and no other input is read. Otherwise all is as in `run`, with
-/// the rules of the text.
+/// The rules text is read before all other inputs, to its end, or to one byte past its limit of 65,536 bytes and no further. If it gives no rules,
+/// that is the verdict, and no other input is read. Otherwise all is as in `run`, with the rules of the text. A record without an exchange is never
+/// `Unsettled` by these rules either.
 ///
 /// # Errors
 ///
@@ -106,6 +106,8 @@ pub fn run_ruled<R: Input, W: Input, L: Input, G: Input, O: Output>(
 /// A deal that fits makes the game legal. A proof that no racks fit the steps up to a line makes it illegal: the verdict is
 /// `NoDeal` with that line, the first up to which the search finds a proof. The verdict is still `Unsettled` if the search
 /// finds neither within its budget, which never happens for a record without an exchange.
+///
+/// If some racks fit the steps before that line (`Dealt`), it is the first up to which there is no deal; otherwise (`Unsettled`) that is not known.
 ///
 /// # Errors
 ///

@@ -17,11 +17,11 @@ use std::alloc::Global;
 /// Writes the first `number` of the best plays by a rack on the board before a line of a record, by the words of a list and their
 /// lexicon; without a line, on the board after its last event.
 ///
-/// Without the bytes of a rack, it is the one that the event on the line shows, or the first event after it. If the bytes are not 1 to
-/// 7 of A to Z and `?`, the verdict is `BadRack`, and no input is read. Otherwise the inputs are read as [`run`](crate::run) reads
-/// them. If no event is on the line or after it, the verdict is `BadLine`, and if no rack is given or shown, `BadRack`. The events
-/// before the line are judged as `run` judges them; the event on it and those after it are not judged. What is written is as
-/// [`run_top`](crate::run_top) writes it, with up to `number` plays instead of ten.
+/// Without the bytes of a rack, it is the one that the event on the line shows, or the first event after it. If the bytes are not 1 to 7 of A to Z
+/// and `?`, the verdict is `BadRack`, and no input is read. Otherwise the inputs are read as [`run`](crate::run) reads them. If no event is on the
+/// line or after it, the verdict is `BadLine`, and if no rack is given or shown, `BadRack`. The events before the line are judged as `run` judges
+/// them; the event on it and those after it are not judged. What is written is as [`run_top`](crate::run_top) writes it, with up to `number` plays
+/// instead of ten. That is exactly one line for each of these plays, or `none`.
 ///
 /// # Errors
 ///

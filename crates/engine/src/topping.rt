@@ -54,7 +54,6 @@ pub(crate) fn refuse_rack<O: Output>(alloc: Global, out: &mut O) -> Result<Verdi
 ///
 /// `ReadFailed` and `WriteFailed` come only if that device failed, or a write took no byte; `NoMemory` if memory
 /// was refused. After `WriteFailed` a prefix of the text was written, after the other two nothing.
-
 pub fn run_top<W: Input, L: Input, G: Input, O: Output>(
     alloc: Global,
     words: &mut W,
@@ -95,7 +94,6 @@ pub fn run_top<W: Input, L: Input, G: Input, O: Output>(
 ///
 /// `ReadFailed` and `WriteFailed` come only if that device failed, or a write took no byte; `NoMemory` if memory
 /// was refused. After `WriteFailed` a prefix of the text was written, after the other two nothing.
-
 pub fn run_top_ruled<R: Input, W: Input, L: Input, G: Input, O: Output>(
     alloc: Global,
     rules_text: &mut R,

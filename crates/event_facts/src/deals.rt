@@ -87,6 +87,9 @@ fn exchange_lines(alloc: Global, steps: &[Step]) -> Result<Vec<ExchangeLine>, Al
 /// to it.
 ///
 /// It fails only if memory runs out.
+///
+/// The facts are true (`IsTrue`); that they are found is tested. The tiles and lines have no deal even if the lines show nothing else of racks. That
+/// these are few is not promised.
 pub fn no_deal(
     alloc: Global,
     rules: &Rules,

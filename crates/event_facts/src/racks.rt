@@ -145,6 +145,8 @@ fn are_same(tiles: &Counts, others: &Counts) -> bool
 }
 
 /// That a rack would have to hold more tiles at a step than its player has; none if the lines up to it do not show that.
+///
+/// The fact is true (`IsTrue`). That it is found is tested.
 pub fn rack_too_big(
     alloc: Global,
     rules: &Rules,
@@ -356,6 +358,8 @@ fn kind_lines(alloc: Global, past: &[Step], kind: Kind) -> Result<Vec<KindLine>,
 }
 
 /// That there would have to be more tiles of a kind at a step than the game has; none if the lines up to it do not show that.
+///
+/// The fact is true (`IsTrue`). That it is found is tested.
 pub fn tiles_short(
     alloc: Global,
     rules: &Rules,

@@ -67,6 +67,8 @@ fn only(
 
 /// What is wrong with an event that the rules refuse. The first fact says the fault, if the game before the event is what the events
 /// before it add up to.
+///
+/// Each fact is true (`IsTrue`). That a fact is found is tested.
 pub fn rule_fault_facts(
     alloc: Global,
     scene: &Scene<'_>,

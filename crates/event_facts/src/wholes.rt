@@ -289,6 +289,9 @@ fn hidden_fact(alloc: Global, passed: &Passed<'_>) -> Result<Fact, AllocError>
 /// its turns show no rack or only a part of it, which last rack is missing, and whether the list may be another one.
 ///
 /// It fails only if memory runs out.
+///
+/// Exactly the plays with words that are not in the list are named, all turns that show no rack or only a part of it, the last rack that is missing,
+/// and that the list may be another one exactly if ten of these words or more are not in it.
 #[tactic(auto, using(crate::proofs::WholeLaws::all_told))]
 pub fn push_notes(
     alloc: Global,

@@ -20,6 +20,28 @@ fn push_ruled(
     text.extend_from_slice(b".\nPerhaps the game was played with another word list.\n")
 }
 
+/// Appends that a play stands, since each of its words is in the word list.
+fn push_stands(text: &mut Vec<u8>, line: u32, words: &[Spelled]) -> Result<(), AllocError> {
+    push_ruled(
+        text,
+        "The play on line ",
+        line,
+        " stands, since each of its words is in the word list: ",
+        words,
+    )
+}
+
+/// Appends that the challenge of a play succeeds, since none of its words is in the word list.
+fn push_succeeds(text: &mut Vec<u8>, line: u32, words: &[Spelled]) -> Result<(), AllocError> {
+    push_ruled(
+        text,
+        "The challenge of the play on line ",
+        line,
+        " succeeds, since none of its words is in the word list: ",
+        words,
+    )
+}
+
 /// Appends that the play before is the other player's.
 fn push_others(
     text: &mut Vec<u8>,
@@ -129,6 +151,19 @@ fn push_written(text: &mut Vec<u8>, written: i32) -> Result<(), AllocError> {
     )
 }
 
+/// Appends which bonus a challenge gives, and which one is written.
+fn push_bonus(
+    text: &mut Vec<u8>,
+    unit: usize,
+    listed: usize,
+    amounts: &[usize],
+    written: i32,
+) -> Result<(), AllocError> {
+    push_listed(text, unit, listed)?;
+    push_amounts(text, amounts)?;
+    push_written(text, written)
+}
+
 /// Appends a fact about a play that is taken back or challenged.
 pub fn push_challenge_fact(
     text: &mut Vec<u8>,
@@ -136,20 +171,8 @@ pub fn push_challenge_fact(
     fact: &ChallengeFact,
 ) -> Result<(), AllocError> {
     match fact {
-        ChallengeFact::PlayStands { line, words } => push_ruled(
-            text,
-            "The play on line ",
-            *line,
-            " stands, since each of its words is in the word list: ",
-            words.as_slice(),
-        ),
-        ChallengeFact::NoWordListed { line, words } => push_ruled(
-            text,
-            "The challenge of the play on line ",
-            *line,
-            " succeeds, since none of its words is in the word list: ",
-            words.as_slice(),
-        ),
+        ChallengeFact::PlayStands { line, words } => push_stands(text, *line, words.as_slice()),
+        ChallengeFact::NoWordListed { line, words } => push_succeeds(text, *line, words.as_slice()),
         ChallengeFact::OthersPlay {
             line,
             player,
@@ -171,10 +194,6 @@ pub fn push_challenge_fact(
             listed,
             amounts,
             written,
-        } => {
-            push_listed(text, *unit, *listed)?;
-            push_amounts(text, amounts.as_slice())?;
-            push_written(text, *written)
-        }
+        } => push_bonus(text, *unit, *listed, amounts.as_slice(), *written),
     }
 }

@@ -63,7 +63,7 @@ fn push_no_deal(
     exchanges: &[ExchangeLine],
 ) -> Result<(), AllocError> {
     text.extend_from_slice(
-        b"No deal of the tiles gives the players the racks that the lines up to this one show, though no line alone shows too much.\n",
+        b"No deal of the tiles gives the players the racks that the lines up to this one show, though no single line shows too much.\n",
     )?;
     if let Some(lines) = clash {
         push_clash(text, players, lines)?;

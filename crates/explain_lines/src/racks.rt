@@ -30,15 +30,6 @@ fn push_too_big(
     text.extend_from_slice(b".\n")
 }
 
-/// The tiles that a line shows, and that are left before it.
-#[derive(Clone, Copy)]
-struct Lack {
-    before: u32,
-    after: u32,
-    kind: Kind,
-    has: usize,
-}
-
 /// Appends how many tiles of a kind there are, if there are too few.
 fn push_too_few(text: &mut Vec<u8>, kind: Kind, has: usize) -> Result<(), AllocError> {
     if has == 0 {
@@ -50,11 +41,18 @@ fn push_too_few(text: &mut Vec<u8>, kind: Kind, has: usize) -> Result<(), AllocE
 }
 
 /// Appends that a line shows a whole rack without tiles that are left on it.
-fn push_left_over(text: &mut Vec<u8>, left: &Counts, lack: &Lack) -> Result<(), AllocError> {
-    say_of_line(text, "After line ", lack.before, " ")?;
+fn push_left_over(
+    text: &mut Vec<u8>,
+    before: u32,
+    left: &Counts,
+    after: u32,
+    kind: Kind,
+    has: usize,
+) -> Result<(), AllocError> {
+    say_of_line(text, "After line ", before, " ")?;
     push_tiles(text, left)?;
-    say_of_line(text, " is left, but line ", lack.after, " has ")?;
-    push_too_few(text, lack.kind, lack.has)
+    say_of_line(text, " is left, but line ", after, " has ")?;
+    push_too_few(text, kind, has)
 }
 
 /// Appends which tiles leave the rack.
@@ -152,6 +150,31 @@ fn push_kind_lines(
     Ok(())
 }
 
+/// Appends that a rack would have more tiles than its player has, with the lines that show them.
+fn push_big_rack(
+    text: &mut Vec<u8>,
+    players: &Players,
+    player: Seat,
+    size: usize,
+    needed: &Counts,
+    lines: &[RackLine],
+) -> Result<(), AllocError> {
+    push_too_big(text, players, player, size, needed)?;
+    push_rack_lines(text, lines)
+}
+
+/// Appends that a kind of tile is shown more often than the game has it, with the lines that show it.
+fn push_short_kind(
+    text: &mut Vec<u8>,
+    players: &Players,
+    kind: Kind,
+    many: &Needed,
+    lines: &[KindLine],
+) -> Result<(), AllocError> {
+    push_short(text, players, kind, many)?;
+    push_kind_lines(text, players, lines)
+}
+
 /// Appends a fact about racks.
 pub fn push_rack_fact(
     text: &mut Vec<u8>,
@@ -166,24 +189,13 @@ pub fn push_rack_fact(
             kind,
             has,
             ..
-        } => {
-            let lack = Lack {
-                before: *before,
-                after: *after,
-                kind: *kind,
-                has: *has,
-            };
-            push_left_over(text, left, &lack)
-        }
+        } => push_left_over(text, *before, left, *after, *kind, *has),
         RackFact::TooBig {
             player,
             size,
             needed,
             lines,
-        } => {
-            push_too_big(text, players, *player, *size, needed)?;
-            push_rack_lines(text, lines.as_slice())
-        }
+        } => push_big_rack(text, players, *player, *size, needed, lines.as_slice()),
         RackFact::TilesShort {
             kind,
             all,
@@ -200,8 +212,7 @@ pub fn push_rack_fact(
                 first: *first,
                 second: *second,
             };
-            push_short(text, players, *kind, &many)?;
-            push_kind_lines(text, players, lines.as_slice())
+            push_short_kind(text, players, *kind, &many, lines.as_slice())
         }
     }
 }

@@ -4,7 +4,6 @@ use Rattle.json.specs.Json.{Json, null, string}
 use Rattle.json_trees.specs.Values.{Field, count, object_of, or_null, text}
 use Rattle.call_stages.specs.declared.verdicts.Verdict.{Verdict}
 use Rattle.call_stages.specs.declared.verdicts.Verdict.TheVariants as verdict
-use Rattle.shown_plays.specs.declared.words.ScoredPlay.{ScoredPlay}
 use Rattle.explanations.specs.declared.explaining.Shown.{Shown}
 use Rattle.explanations.specs.declared.explaining.Picture.{Picture}
 use Rattle.explanations.specs.declared.explaining.Picture.TheVariants as picture

@@ -1,5 +1,5 @@
 -- What lines show of racks, as objects.
-use Rattle.std.specs.Prelude.{ℕ, List, [], ◌∷◌, ◌++◌, codes, map, Option, Some, None}
+use Rattle.std.specs.Prelude.{List, [], ◌∷◌, ◌++◌, codes, map, Option, Some, None}
 use Rattle.json.specs.Json.{Json}
 use Rattle.json_trees.specs.Values.{Field, array_of, count, field_if, object_of}
 use Rattle.gcg_read.specs.declared.events.Seat.{Seat}

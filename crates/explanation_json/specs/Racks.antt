@@ -1,5 +1,5 @@
 -- Facts about tiles, racks and deals, as objects.
-use Rattle.std.specs.Prelude.{ℕ, List, [], ◌∷◌, ◌++◌, codes, sum, Option, Some, None, option_map}
+use Rattle.std.specs.Prelude.{ℕ, List, [], ◌∷◌, ◌++◌, codes, sum, Option, option_map}
 use Rattle.json.specs.Json.{Json}
 use Rattle.json_trees.specs.Values.{Field, count, field_if, object_of}
 use Rattle.gcg_read.specs.declared.events.Seat.{Seat}

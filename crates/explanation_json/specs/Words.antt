@@ -1,5 +1,5 @@
 -- The words of a play and the board before an event, as objects.
-use Rattle.std.specs.Prelude.{ℕ, ◌+◌, ◌*◌, Bool, true, false, List, [], ◌∷◌, codes, map, slice_get, Option, Some, None, option_map, if◌then◌else◌}
+use Rattle.std.specs.Prelude.{ℕ, List, [], ◌∷◌, codes, map, slice_get, Option, Some, None, option_map, if◌then◌else◌}
 use Rattle.std.specs.List.{flat_map, range_with_len}
 use Rattle.json.specs.Json.{Json, boolean, null, string}
 use Rattle.json_trees.specs.Values.{Field, array_of, count, integer, object_of, or_null, text}

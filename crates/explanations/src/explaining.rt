@@ -115,6 +115,9 @@ fn picture_at(
 /// to it, if that is known.
 ///
 /// It fails only if memory runs out.
+///
+/// The first fact about an event that the rules refuse is that of the fault; an event after it has the fact that it was not judged, and no other; no
+/// event is without a fact. That the facts are all that is to be said is tested.
 #[tactic(auto, using(crate::proofs::Refusing::read_at))]
 pub fn explain_event(
     alloc: Global,

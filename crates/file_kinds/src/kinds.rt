@@ -226,7 +226,7 @@ impl FileKind {
             FileKind::Zip => "it is compressed (zip)",
             FileKind::Utf16 => "it is text in UTF-16, and records are read as UTF-8 or ISO-8859-1",
             FileKind::Markup => "it is HTML or another markup",
-            FileKind::Returns => "its lines end in CR alone, and not in LF or CR LF",
+            FileKind::Returns => "its lines end only in CR, not in LF or CR LF",
             FileKind::Indented => "its lines begin with blanks before the >",
             FileKind::Words =>
                 "it is a word list, and the files are WORDS, LEXICON and GAME, in this order",

@@ -11,8 +11,9 @@ use std::io::{Error, ErrorKind, Read, Result};
 /// The greatest number of bytes that one read asks for.
 const CHUNK: usize = 8192;
 
-/// A reader whose text has the first field of each line in place of the line: what is before its first space or tab. A line that
-/// begins with `#` becomes an empty one, so that lines keep their numbers. On request it gives the lines as they are.
+/// A reader whose text has the first field of each line in place of the line: what is before its first space or tab. A line that begins with `#`
+/// becomes an empty one, so that lines keep their numbers. On request it gives the lines as they are. Each read gives the next bytes, none only at
+/// the end, and a read that fails takes none of them.
 #[derive(Drop)]
 pub struct FirstFields<R> {
     inner: R,

@@ -83,6 +83,9 @@ fn judged_from(
 ///
 /// The input is read to its end, or to one byte past 1 MiB and no further.
 ///
+/// The report that is written only from it is one that `run`, or `run_settled`, gives of the record with this verdict. The points that a player left
+/// are the sum of what best plays would have given more; there is none exactly if it is 2^64 or more.
+///
 /// # Errors
 ///
 /// `ReadFailed` comes only if the input failed; `NoMemory` if memory was refused.

@@ -152,6 +152,8 @@ fn plays_from(
 ///
 /// The input is read to its end, or to one byte past 1 MiB and no further.
 ///
+/// The report that is written only from it is the one that `run_top_before` gives.
+///
 /// # Errors
 ///
 /// `ReadFailed` comes only if the input failed; `NoMemory` if memory was refused.

@@ -272,9 +272,9 @@ fn push_players(text: &mut Vec<u8>, game: &Record, place: usize) -> Result<(), A
     Ok(())
 }
 
-/// The board of a record as a text of lines of at most 80 bytes: which board it is, and why laying ended if a play cannot be laid;
-/// the squares, with their rows and columns named; both players with their last totals as they are written, and the rack of the
-/// line; and the tiles that are not on the board.
+/// The board of a record as a text: which board it is, and why laying ended if a play cannot be laid; the squares, with their rows
+/// and columns named; both players with their last totals as they are written, and the rack of the line; and the tiles that are not
+/// on the board. That no line has more than 80 bytes is tested.
 ///
 /// It fails only if memory runs out.
 pub fn board_text(

@@ -89,6 +89,11 @@ fn audit_from(
 ///
 /// The input is read to its end, or to one byte past 1 MiB and no further.
 ///
+/// The events of the record are a correction of the written ones, or one up to the event at which it stops; those after it are as they were. The list
+/// has exactly the wrong scores and sums, in the order of the sheet, and if there is a correction also the last totals that are wrong and whose sums
+/// are not. A total that is right is never in it, nor one that only carries the mistake of another one on. It says who is ahead by the corrected
+/// events, and by those that are written.
+///
 /// # Errors
 ///
 /// `ReadFailed` comes only if the input failed; `NoMemory` if memory was refused.

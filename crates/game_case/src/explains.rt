@@ -105,6 +105,8 @@ pub fn case_line(alloc: Global, case: &Case) -> Result<Vec<u8>, AllocError>
 ///
 /// The input is read to its end, or to one byte past 1 MiB and no further.
 ///
+/// The finding is that there is no game only for a record without an event. Best plays are not searched for.
+///
 /// # Errors
 ///
 /// `ReadFailed` comes only if the input failed; `NoMemory` if memory was refused.

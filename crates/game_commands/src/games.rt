@@ -9,7 +9,7 @@ use command_files::{
     Words, advise_bad_record, advise_no_game, advise_unread, give_hint, open_inputs, open_rules,
     open_sheet, rules_front, tell_others, used_rules, used_source, verdict_of, watched,
 };
-use command_line::{GameFiles, PlaysAsked};
+use command_line::GameFiles;
 use devices::{FromRead, FromWrite, Input, Output};
 use engine::{
     run, run_board, run_board_ruled, run_ruled, run_settled, run_settled_ruled, run_tidy, run_top,
@@ -210,23 +210,25 @@ pub fn judge<'a, R: Runtime + AllocGlobal>(
     Ok(verdict)
 }
 
-/// Writes the best plays by a rack on a board of a record, by the English rules or those of a text, to standard output.
-/// The files are opened before the rack is looked at, whose letters may be lower case.
+/// Writes the best plays on a board of a record, by the English rules or those of a text, to standard output: on the board before `line`, by `rack`, and
+/// at most `number` of them, as far as these are given. The files are opened before the rack is looked at, whose letters may be lower case.
 pub fn top<'a, R: Runtime + AllocGlobal>(
     rt: &R,
     files: GameFiles<'a>,
-    plays: PlaysAsked<'a>,
+    line: Option<u32>,
+    rack: Option<&str>,
+    number: Option<u32>,
 ) -> Result<Verdict, Trouble<'a>> {
-    let Ok(rack) = rack_in_capitals(rt.alloc(), plays.rack) else {
+    let Ok(rack) = rack_in_capitals(rt.alloc(), rack) else {
         return Err(Trouble::NoMemory);
     };
     let rack = rack.as_ref().map(|tiles| tiles.as_slice());
-    answer_game(rt, files, top_task(plays, rack))
+    answer_game(rt, files, top_task(line, rack, number))
 }
 
-/// The request of a command line for best plays, with its rack in capitals.
-fn top_task<'t>(plays: PlaysAsked<'_>, rack: Option<&'t [u8]>) -> GameTask<'t> {
-    match (rack, plays.number, plays.before) {
+/// The request for best plays, by a rack in capitals.
+fn top_task<'t>(line: Option<u32>, rack: Option<&'t [u8]>, number: Option<u32>) -> GameTask<'t> {
+    match (rack, number, line) {
         (Some(rack), None, None) => GameTask::TopAtTheEnd(rack),
         (rack, number, line) => GameTask::TopBefore {
             rack,

@@ -85,6 +85,8 @@ impl LatestBests {
 
     /// The best play that a rack allows on the board of `follow`, with its score; none if there is no play. It is the one that [`Follow::annotate`]
     /// gives, but it is searched for only if it is not one of the latest two.
+    ///
+    /// How often it searches is not proved.
     pub fn best(
         &mut self,
         follow: &Follow,

@@ -114,6 +114,8 @@ fn stop_at(event: &Event, why: RuleFault) -> Stop
 /// whatever its numbers are; from there on the events stay as they were.
 ///
 /// It fails only if memory runs out.
+///
+/// If it stops, no sheet with these events is allowed.
 pub fn walk_and_correct(
     alloc: Global,
     rules: &Rules,

@@ -110,6 +110,8 @@ fn take_with_score(
 /// Takes the event at a place, with the score and the total that the rules give if its own are wrong. If it is refused, no other
 /// number of it would be accepted; it then has its own total, and its own score if that is not the wrong number.
 ///
+/// Numbers that a record can hold stay such numbers.
+///
 /// # Errors
 ///
 /// The first check that fails with the numbers that the event then has.

@@ -118,6 +118,9 @@ impl<L: PathLex> Finder<'_, L> {
 /// The lexicon must stand for a list of words of two letters or more, and the cross-sets must be those of the board. A sink that
 /// was made for a board must have been made for this one. The board stays as it was.
 ///
+/// With `Best` or `Top<N>` it succeeds. An anchor or a move that a sink skips by its bound would not change what it keeps. That the greatest bounds
+/// come first is not proved, since nothing but the time depends on it.
+///
 /// # Errors
 ///
 /// Memory ran out in the sink. It then has a front of the plays.

@@ -125,15 +125,15 @@ impl fmt::Display for Hint<'_> {
             Hint::Limit(limit) => write!(f, "{limit}"),
             Hint::OtherList { words, lexicon } => write!(
                 f,
-                "{lexicon} is the lexicon of another list than {words}: make its own by referee build"
+                "{lexicon} is not the lexicon of {words}, but of another list: referee build makes the right one"
             ),
             Hint::NoList { words } => write!(
                 f,
-                "{words} is a compiled lexicon and no word list: the two names are the wrong way round"
+                "{words} is a compiled lexicon, not a word list: the two names are the wrong way round"
             ),
             Hint::Record { words } => write!(
                 f,
-                "{words} is a game record and no word list: the files are WORDS, LEXICON and GAME, in this order"
+                "{words} is a game record, not a word list: the files are WORDS, LEXICON and GAME, in this order"
             ),
         }
     }

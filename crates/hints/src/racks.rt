@@ -48,7 +48,7 @@ impl fmt::Display for RackHint {
             RackHint::NoTile(tile) => {
                 write!(
                     f,
-                    "{tile:?} in the rack is no tile: tiles are A to Z, and ? for a blank"
+                    "{tile:?} in the rack is not a tile: tiles are A to Z, and ? for a blank"
                 )
             }
             RackHint::TooMany(tiles) => {

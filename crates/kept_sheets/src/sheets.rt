@@ -150,6 +150,10 @@ fn sheet_of_read(alloc: Global, case: &Case, faulty: &Faulty) -> Result<Option<V
 }
 
 /// The text of the sheet that is to be written for an answer; `None` if there is none.
+///
+/// It is that by the choice among the repairs: with the repair, without the slip of the whole sheet or of its bad line, or with only its numbers
+/// corrected. There is none if nothing is chosen, if a player who has a line has no nickname, if the text would not read so, or if the slip does not
+/// say of each line what should be there.
 pub fn sheet_to_keep(
     alloc: Global,
     case: &Case,

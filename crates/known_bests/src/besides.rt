@@ -106,6 +106,8 @@ impl Beside {
 
     /// What is said of the best play of an event that gave `gave` points; `machine` is before the event, and `place` is its place among the events of
     /// the game. It searches only for what is not known, and what is found is known from then on.
+    ///
+    /// It is what `best_of_turn` says, whatever the table has. How often something is known, and that the table never grows, is not proved.
     pub fn best_at(
         &mut self,
         rules: &Rules,

@@ -21,6 +21,8 @@ const MOST_WORDS: usize = 48;
 /// they do not, or memory runs out, the answer is no.
 ///
 /// The count comes first: it takes one pass over the nodes, and most wrong files have a different one.
+///
+/// A no says nothing. That it answers yes for what is built is only tested.
 pub fn agree(alloc: Global, list: &WordList, file: &LexFile<'_>) -> bool
     ensures { OnTrue result (StandsFor (language_of (bytes_of file.now)) list.now) }
 {

@@ -3,10 +3,9 @@
 
 mod pages;
 
-use command_line::{
-    CaseTask, GameFiles, GameRequest, Request, STANDARD_INPUT, STANDARD_OUTPUT_NAME, SheetTask,
-};
+use command_line::{Asked, GameFiles, GameRequest, Request, STANDARD_INPUT, STANDARD_OUTPUT_NAME};
 pub use pages::{RunInputs, input_under_pages};
+use serve_requests::Task;
 use std::rt::Runtime;
 use whole_files::is_same_file;
 
@@ -30,13 +29,11 @@ fn lost_of_game<R: Runtime>(
     files: &GameFiles<'_>,
     request: GameRequest<'_>,
 ) -> Option<&'static str> {
-    let Some(out) = request.out() else {
-        return None;
-    };
-    let (first, second) = match request {
-        GameRequest::Sheet(SheetTask::Case(CaseTask::Compare(second, _))) => ("SHEET1", second),
-        GameRequest::Sheet(SheetTask::Fill(_)) => ("DRAFT", ""),
-        _ => ("GAME", ""),
+    let out = request.out?;
+    let (first, second) = match request.asked {
+        Asked::WithAnother(second) => ("SHEET1", second),
+        Asked::OfOne(Task::Fill { .. }) => ("DRAFT", ""),
+        Asked::OfOne(_) => ("GAME", ""),
     };
     let inputs = [
         ("the FILE of --rules", files.rules.unwrap_or("")),

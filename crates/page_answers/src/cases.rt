@@ -52,6 +52,10 @@ fn shown_of(
 /// A case with what its page shows, by its likely repair if the page is to show that, and by what the page is made by.
 ///
 /// It fails only if memory runs out.
+///
+/// The page shows the verdict line, what explains it, the encoding and the words of the record, the score sheet with the board at the faulty line or
+/// at the end, the board with the repaired play, and, if there is no likely repair, the audit of a sheet with a wrong number; nothing if the text is
+/// not a record. Of the maker only the number of words is promised.
 pub fn paged_case(
     alloc: Global,
     rules: &Rules,

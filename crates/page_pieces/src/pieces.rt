@@ -4,7 +4,7 @@ use name_texts::Encoding;
 use ref_board::{Dir, Square};
 use ref_tiles::{Counts, Symbol};
 
-/// A piece of a page.
+/// A piece of a page. That a piece of markup is text of the program follows from its type, `&'static str`; no clause says so.
 #[derive(Clone, Copy)]
 pub enum Piece<'a> {
     /// Markup, or text without a sign that means something in markup. It is part of the program, so nothing from a record is such a

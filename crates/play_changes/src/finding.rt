@@ -93,6 +93,8 @@ fn push_at(
 /// line. If the line of a play states a rack, it may be another play of this rack with the score that is written.
 ///
 /// These are only candidates, so each has to be tried. It fails only if memory runs out.
+///
+/// Which plays these are is not promised.
 pub fn plays_for(
     alloc: Global,
     rules: &Rules,

@@ -84,7 +84,7 @@ fn missing_weight(line: &MissingLine) -> usize
     }
 }
 
-/// The weight of a slip, 1 to 7: a smaller one is likelier.
+/// The weight of a slip, 1 to 7, or 11 for a time penalty that is missing before a turn: a smaller one is likelier.
 pub fn weight_of(slip: &Slip) -> usize
     ensures { result ≡ weight_of slip.now }
 {

@@ -51,6 +51,9 @@ fn first_repairs(
 /// the events that it went over; the last places are tried first, and the answer has the first one that was tried.
 ///
 /// It fails only if memory runs out.
+///
+/// What stays wrong with each is said exactly. At a place that was tried none is left out except one of a record that is listed already, one that
+/// comes after as many others as were asked for, or one whose deal is left open; the last are listed separately.
 pub fn repairs(
     alloc: Global,
     rules: &Rules,

@@ -151,7 +151,7 @@ pub fn push_other_faults(
     push_more(
         text,
         others.len(),
-        " begins with > and is no event.\n",
-        " begin with > and are no events.\n",
+        " begins with > and is not an event.\n",
+        " begin with > and are not events.\n",
     )
 }

@@ -35,6 +35,8 @@ fn copied(alloc: Global, text: Option<&[u8]>) -> Result<Option<Vec<u8>>, AllocEr
 /// What the text of a record says in words besides its events.
 ///
 /// It fails only if memory runs out.
+///
+/// These are what the first line of each kind (`#title`, `#event`, `#description`, `#lexicon`) says, and all notes.
 pub fn words_of(alloc: Global, text: &[u8]) -> Result<RecordWords, AllocError>
     ensures { IfOk result (AreWordsOf text.now) }
 {

@@ -7,13 +7,14 @@ use clap::Error;
 use clap::error::ErrorKind;
 use command_files::{STANDARD_OUTPUT, write};
 use command_line::{
-    GameFiles, GameRequest, PROGRAM_NAME, PairFiles, Request, mistake, parse_arguments,
+    Asked, GameFiles, GameRequest, PROGRAM_NAME, PairFiles, Request, mistake, parse_arguments,
 };
 use exit_statuses::{Exit, Trouble};
 use game_commands::{board, build, check, convert, judge, tidy, top};
 use lost_inputs::{input_under_pages, lost_input};
 use ref_tiles::ENGLISH_TEXT;
 use serve_commands::serve;
+use serve_requests::Task;
 use std::alloc::AllocError;
 use std::rt::Runtime;
 use std::{env, io};
@@ -37,7 +38,7 @@ fn arguments_of<R: Runtime + AllocGlobal>(rt: &R) -> Result<Vec<String>, Error> 
     match env::args(rt) {
         Ok(args) => Ok(args.collect(rt.alloc())?),
         Err(error) if error.kind() == io::ErrorKind::OutOfMemory => Err(Error::from(AllocError)),
-        Err(_) => Err(mistake(rt.alloc(), "an argument is no UTF-8 text")),
+        Err(_) => Err(mistake(rt.alloc(), "an argument is not UTF-8 text")),
     }
 }
 
@@ -141,9 +142,11 @@ fn answer_about_game<'a, R: Runtime + AllocGlobal>(
     request: GameRequest<'a>,
     json: bool,
 ) -> Result<Exit, Trouble<'a>> {
-    match request {
-        GameRequest::Judge { settle } if !json => ended(judge(rt, settle, files)),
-        GameRequest::Top(plays) if !json => ended(top(rt, files, plays)),
+    match request.asked {
+        Asked::OfOne(Task::Judge { settle, .. }) if !json => ended(judge(rt, settle, files)),
+        Asked::OfOne(Task::Top { line, rack, number }) if !json => {
+            ended(top(rt, files, line, rack, number))
+        }
         _ => answer_game(rt, files, request, json),
     }
 }

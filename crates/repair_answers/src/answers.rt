@@ -227,6 +227,10 @@ fn line_repairs_of(
 /// the case is as it was.
 ///
 /// It fails only if memory runs out.
+///
+/// It has the first repairs with what stays wrong with each, in lines of those that are alike; what is wrong with the numbers alone, and whether a
+/// deal was found then; pairs that cost less, the slips of the whole sheet that repair it, none left out that makes a game, a chain if one is
+/// likelier, how many changes were tried and how many not; and of a text that is not a record what repairs that by its line.
 pub fn answer_repairs(
     alloc: Global,
     rules: &Rules,

@@ -66,6 +66,8 @@ fn push_numbers(
 /// whole sheet come last.
 ///
 /// It fails only if memory runs out.
+///
+/// The order is tested.
 pub fn items_of(alloc: Global, faulty: &Faulty) -> Result<Vec<Item>, AllocError> {
     let mut items = Vec::new(alloc);
     let mut done = 0;

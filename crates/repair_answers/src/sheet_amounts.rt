@@ -59,6 +59,8 @@ fn amount_in(
 /// The bonus or the penalty that would explain the numbers of the record of a text, as [`amount_repair`] finds it, if one of these wrong totals is off by
 /// some bonuses for a word or some steps of time.
 ///
+/// That one is found is tested, not promised.
+///
 /// # Errors
 ///
 /// Memory was refused.

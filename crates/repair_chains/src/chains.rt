@@ -202,6 +202,9 @@ fn go_on(
 /// events are as they were written.
 ///
 /// Nothing says that no other chain does it, or that this one is the cheapest. It fails only if memory runs out.
+///
+/// Each change but the last is a single change of the record that those before it make, and the last one is a repair of the record that these make
+/// together.
 pub fn find_chain(
     alloc: Global,
     rules: &Rules,

@@ -9,7 +9,6 @@ use Rattle.gcg_read.specs.declared.events.Event.{Event}
 use Rattle.gcg_read.specs.declared.records.Record.{Record}
 use Rattle.record_repairs.specs.declared.repair.Repair.{Repair}
 use Rattle.repair_chains.specs.declared.chains.Chain.{Chain}
-use Rattle.repair_pairs.specs.declared.found.Head.{Head}
 use Rattle.repair_pairs.specs.declared.found.Pair.{Pair}
 use Rattle.repair_pairs.specs.declared.found.Pairs.{Pairs}
 use Rattle.repair_answers.specs.declared.answers.Faulty.{Faulty}

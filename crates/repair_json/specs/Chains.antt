@@ -1,5 +1,5 @@
 -- Several changes, one after the other, as an object.
-use Rattle.std.specs.Prelude.{ℕ, List, [], ◌∷◌, codes, length, Option, Some, None, option_map}
+use Rattle.std.specs.Prelude.{List, [], ◌∷◌, codes, length, Option, option_map}
 use Rattle.json.specs.Json.{Json}
 use Rattle.json_trees.specs.Values.{Field, array_of, count, object_of, or_null}
 use Rattle.gcg_read.specs.declared.events.Event.{Event}

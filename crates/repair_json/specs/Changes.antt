@@ -1,5 +1,5 @@
 -- A change, and a repair, as objects.
-use Rattle.std.specs.Prelude.{ℕ, List, [], ◌∷◌, codes, drop, length, map, slice_get, take, Option, Some, None, option_map}
+use Rattle.std.specs.Prelude.{ℕ, List, [], ◌∷◌, codes, drop, length, map, slice_get, take, Option, option_map}
 use Rattle.std.specs.List.{filter_map}
 use Rattle.std.specs.Option.{option_and_then}
 use Rattle.json.specs.Json.{Json, string}

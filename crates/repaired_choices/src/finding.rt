@@ -96,6 +96,10 @@ fn tried_by(
 /// The choices that go furthest and the first repairs of each, if no choice of two sheets makes a game or is left open.
 ///
 /// It fails only if memory runs out.
+///
+/// Each choice that is tried has the first two repairs of its events. The best is one whose first repair costs no more than any other first one, and
+/// the answer says whether each other repair that was found costs more or makes a record of the same game. Which choices are tried is not promised,
+/// nor that no other choice or change does better.
 #[tactic(auto, using(crate::proofs::Least::games_of))]
 pub fn repaired_choices(
     alloc: Global,

@@ -52,6 +52,9 @@ pub fn kept_by_seat(
 /// these events.
 ///
 /// It fails only if memory runs out.
+///
+/// Each other line is as it was given, but for numbers that are not right. That there is a text for each repair with which it has no more than 1 MiB
+/// is tested.
 pub fn kept_with(
     alloc: Global,
     text: &[u8],

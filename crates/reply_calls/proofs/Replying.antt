@@ -1,5 +1,5 @@
 -- What was found, written.
-use Rattle.std.proofs.Common.{◌≡◌, ℕ, List, Option, Result, Ok, Err, IfOk, IfErr, IfSome, OnOk, refl, sym, subst}
+use Rattle.std.proofs.Common.{◌≡◌, ℕ, List, Result, Ok, Err, IfSome, refl, sym, subst}
 use Rattle.std.specs.Io.KnownBytes.{Appends}
 use Rattle.devices.specs.Devices.{Device, HasWorked}
 use Rattle.call_stages.specs.declared.decisions.Decision.{Decision}
@@ -7,13 +7,13 @@ use Rattle.call_stages.specs.declared.faults.RunFault.{RunFault}
 use Rattle.call_stages.specs.declared.faults.RunFault.TheVariants as run
 use Rattle.call_stages.specs.declared.verdicts.Verdict.{Verdict}
 use Rattle.call_stages.specs.Runs.{Gives, StopsReading, outcomes}
-use Rattle.call_stages.specs.Sources.{Source, AllHaveWorked, OneHasFailed}
+use Rattle.call_stages.specs.Sources.{Source, AllHaveWorked}
 use Rattle.exit_statuses.specs.Exits.{status_of}
 use Rattle.serve_answers.specs.declared.replies.Reply.{Reply}
 use Rattle.serve_answers.specs.declared.printed.Printed.{Printed}
 use Rattle.reply_calls.specs.declared.ended.Ended.{Ended}
 use Rattle.reply_calls.specs.Endings.{status_of_found, refused_of}
-use Rattle.reply_calls.specs.Calls.{IsWrittenOf, IsWriting, StopsWriting, Replies, GivesUpBy, IsReplying}
+use Rattle.reply_calls.specs.Calls.{IsWriting, StopsWriting, GivesUpBy, IsReplying}
 
 -- it is written
 pub written : (Shows : Result Reply Decision → Printed → Type 0) (Holds : List ℕ → Type 0) (found : Result Reply Decision) (out_old out_new : Device) (printed : Printed) (ended : Ended)

@@ -1,5 +1,5 @@
 -- What a call writes of what it found.
-use Rattle.std.specs.Prelude.{◌≡◌, ℕ, List, Option, Result, IfOk, IfErr, IfSome, OnOk}
+use Rattle.std.specs.Prelude.{◌≡◌, ℕ, List, Result, IfOk, IfErr, IfSome, OnOk}
 use Rattle.std.specs.Io.KnownBytes.{Appends}
 use Rattle.devices.specs.Devices.{Device, HasWorked}
 use Rattle.call_stages.specs.declared.decisions.Decision.{Decision}

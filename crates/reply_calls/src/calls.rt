@@ -20,6 +20,9 @@ use std::alloc::Global;
 /// Reads the rules if they are not known, the words of a list and their lexicon, in this order until one is bad, and writes what is found: the reply to a
 /// request that is about no sheet, or that an input is bad. The text to be kept is kept before the report is written.
 ///
+/// Exactly the report is written which shows what was found, by the rendering; the status is that of what was found. No input is read further than
+/// one byte past its limit.
+///
 /// # Errors
 ///
 /// If an input failed or memory was refused; then nothing is written to `out`. Or if an output failed.
@@ -62,6 +65,9 @@ pub fn answer_request<
 
 /// Reads the rules if they are not known, the words of a list, their lexicon and a sheet, in this order until one is bad, and writes what is found: the
 /// reply to what is asked of the sheet, or that an input before it is bad. The text to be kept is kept before the report is written.
+///
+/// Exactly the report is written which shows what was found, by the rendering; the status is that of what was found. No input is read further than
+/// one byte past its limit.
 ///
 /// # Errors
 ///
@@ -107,6 +113,9 @@ pub fn answer_sheet<
 }
 
 /// The same with two sheets, which are compared; `merged` says whether the merged record is requested.
+///
+/// Exactly the report is written which shows what was found, by the rendering; the status is that of what was found. No input is read further than
+/// one byte past its limit.
 ///
 /// # Errors
 ///
@@ -155,6 +164,9 @@ pub fn answer_sheets<
 
 /// Reads the rules if they are not known and a sheet, in this order until one is bad, and writes what is found: the reply to the request for the board of
 /// the sheet, before a line if one is named, or that the rules are bad. No words are read.
+///
+/// Exactly the report is written which shows what was found, by the rendering; the status is that of what was found. No input is read further than
+/// one byte past its limit.
 ///
 /// # Errors
 ///

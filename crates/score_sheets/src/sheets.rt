@@ -71,6 +71,9 @@ fn gains_in(player: Seat, events: &[Event], rows: &Vec<SheetRow>) -> Option<u64>
 /// board at a place, counted from 0. At the end of the events it is the last board.
 ///
 /// It fails only if memory runs out.
+///
+/// What a number should be is shown exactly if it is wrong. The best play of a row is the one that `judge` prints in the line of that event of the
+/// corrected record.
 pub fn score_sheet<'a>(
     alloc: Global,
     rules: &Rules,

@@ -1,5 +1,5 @@
 -- What is found of two texts.
-use Rattle.std.proofs.Common.{◌≡◌, ℕ, Bool, List, [], Result, Ok, sym}
+use Rattle.std.proofs.Common.{◌≡◌, ℕ, Bool, List, [], Ok, sym}
 use Rattle.ref_tiles.specs.declared.rulebook.Rules.{Rules}
 use Rattle.gcg_read.specs.declared.records.Record.{Record}
 use Rattle.gcg_read.specs.Records.{record_of}

@@ -1,5 +1,5 @@
 -- What explains the case of a record, or one of its lines, and what else is asked of it.
-use Rattle.std.specs.Prelude.{◌≡◌, ◌&&◌, is_none, ℕ, Bool, true, false, List, Option, Some, None, Result, Ok, Err}
+use Rattle.std.specs.Prelude.{◌≡◌, ◌&&◌, is_none, ℕ, Bool, true, false, List, Option, None, Result, Ok, Err}
 use Rattle.ref_tiles.specs.declared.rulebook.Rules.{Rules}
 use Rattle.gcg_read.specs.declared.events.Event.{Event}
 use Rattle.gcg_read.specs.declared.faults.ReadFault.{ReadFault}

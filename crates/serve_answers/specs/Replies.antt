@@ -1,5 +1,5 @@
 -- The answer to a request, by rules and the words of a list.
-use Rattle.std.specs.Prelude.{◌≡◌, ℕ, Bool, List, length}
+use Rattle.std.specs.Prelude.{◌≡◌, ℕ, List, length}
 use Rattle.std.specs.Option.{option_copied}
 use Rattle.ref_tiles.specs.declared.rulebook.Rules.{Rules}
 use Rattle.asked_racks.specs.Racks.{bytes_named}

@@ -85,6 +85,8 @@ pub fn board_reply(
 /// The reply to a request, by rules, the words of a pair and a maker. It depends only on these. Best plays that are proved for their board and their rack are
 /// kept from one request to the next, so that they need not be looked for again; the reply does not depend on them.
 ///
+/// There is a reply unless memory is refused. A record of more than 1 MiB counts up to one byte past that, as it is read from a file.
+///
 /// # Errors
 ///
 /// `NoMemory` if memory was refused.

@@ -1,5 +1,5 @@
 -- The lines of answers.
-use Rattle.std.proofs.Common.{◌≡◌, ◌⊎◌, ◌≤◌, ◌++◌, inl, inr, ℕ, Bool, true, false, IsTrue, IsUtf8, List, [], codes, Option, Some, None, Result, Ok, Err, IfErr, OnOk, sym, subst, ◌∙◌}
+use Rattle.std.proofs.Common.{◌≡◌, ◌≤◌, ◌++◌, inl, inr, ℕ, Bool, false, IsTrue, IsUtf8, List, [], codes, Option, Some, None, Result, Ok, Err, OnOk, sym, subst, ◌∙◌}
 use Rattle.page_answers.specs.declared.makers.Maker.{Maker}
 use Rattle.ref_tiles.specs.declared.rulebook.Rules.{Rules}
 use Rattle.serde_json.specs.Data.{Data, depth}

@@ -13,7 +13,7 @@ ghost use Rattle.serve_commands.specs.AnswerLines.{IsIdText, IsAnswerLine, IsRef
 ghost use Rattle.serve_commands.specs.Ready.{ready_object};
 ghost use Rattle.serve_requests.specs.Said.{value_at};
 
-use crate::answering::answer_to;
+use crate::answering::{Response, answer_to};
 use answer_json::trouble_tree;
 use decimal_text::push_number;
 use exit_statuses::Exit;
@@ -147,8 +147,19 @@ fn push_no_request(
     }
 }
 
+/// Appends the line of this answer.
+fn push_response(
+    alloc: Global,
+    out: &mut Vec<u8>,
+    id: &[u8],
+    response: &Response,
+) -> Result<(), AllocError>
+    ensures { OnOk result (out.new.items ≡ out.old.items ++ answer_line id.now (status_of response.now.exit) (object_in response.now.body) (text_in response.now.body)) }
+{
+    push_told(alloc, out, id, response.exit, &response.body)
+}
+
 /// Appends the line of the answer to a request.
-#[tactic(auto, using(crate::proofs::AnswerLines::told))]
 fn push_answer(
     alloc: Global,
     out: &mut Vec<u8>,
@@ -161,8 +172,10 @@ fn push_answer(
     ensures known { AreKnown judges.now.rules.now (list_in judges.now.pair.now) known.new }
     ensures line { OnOk result (IsAnswerLine judges.now.maker.now judges.now.rules.now (list_in judges.now.pair.now) request.now id.now out.old.items out.new.items) }
 {
-    let told = answer_to(alloc, judges, request, known)?;
-    push_told(alloc, out, id, told.exit, &told.body)
+    match answer_to(alloc, judges, request, known) {
+        Ok(response) => push_response(alloc, out, id, &response),
+        Err(error) => Err(error),
+    }
 }
 
 /// Appends the line of the answer to an object with this id, if it is a request; otherwise that it is not one.
@@ -258,7 +271,7 @@ pub fn make_refusal(
     push_refused(alloc, out, NO_ID, refusal)
 }
 
-/// Makes the line of the answer to a line.
+/// Makes the line of the answer to a line. The words of an `error` and the text of a page are not promised.
 ///
 /// # Errors
 ///

@@ -40,10 +40,10 @@ impl fmt::Display for Refusal<'_> {
     fn fmt<W: fmt::Write>(&self, f: &mut fmt::Formatter<W>) -> fmt::Result {
         match *self {
             Refusal::TooLong => write!(f, "the line has more than 4194304 bytes"),
-            Refusal::NoJson => write!(f, "the line is no JSON"),
-            Refusal::NoObject => write!(f, "the line is no JSON object"),
+            Refusal::NoJson => write!(f, "the line is not JSON"),
+            Refusal::NoObject => write!(f, "the line is not a JSON object"),
             Refusal::NoCommand => write!(f, "the object has no do"),
-            Refusal::NoName => write!(f, "do is no text"),
+            Refusal::NoName => write!(f, "do is not a text"),
             Refusal::NoSuchCommand(name) => write!(f, "there is no command {name:?}"),
             Refusal::NoId => write!(f, "id is neither a text nor a number"),
             Refusal::NoSuchKey(command, key) => {
@@ -54,12 +54,12 @@ impl fmt::Display for Refusal<'_> {
                 let name = command.name();
                 write!(f, "{name} needs {key}")
             }
-            Refusal::NoText(key) => write!(f, "{key} is no text"),
+            Refusal::NoText(key) => write!(f, "{key} is not a text"),
             Refusal::NoFlag(key) => write!(f, "{key} is neither true nor false"),
             Refusal::NoNumber(key, least, most) => {
-                write!(f, "{key} is no number from {least} to {most}")
+                write!(f, "{key} is not a number from {least} to {most}")
             }
-            Refusal::NoTexts(key) => write!(f, "{key} is no list of texts"),
+            Refusal::NoTexts(key) => write!(f, "{key} is not a list of texts"),
             Refusal::NoMemory => write!(f, "no memory"),
         }
     }

@@ -313,9 +313,12 @@ fn request_for<'a>(
 
 /// The request of an object, or why it is not one.
 ///
+/// An object is taken exactly if it names a command, has no key that the command does not have, and its values are of the kinds that the keys ask
+/// for.
+///
 /// # Errors
 ///
-/// The refusal is true of the object, or memory was refused. If more than one would be true, it is the first that is found.
+/// The refusal is true of the object, or memory was refused. Which one is named if more than one would be true is tested.
 #[tactic(auto, using(crate::proofs::Named::asks, crate::proofs::Refused::only_memory))]
 pub fn request_in<'a>(alloc: Global, object: &'a Value) -> Result<Request<'a>, Refusal<'a>>
     ensures request { IfOk result (IsRequestIn (view object.now)) }

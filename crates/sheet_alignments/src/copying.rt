@@ -45,3 +45,17 @@ pub(crate) fn copy_with_rack(event: &Event, rack: &Option<Counts>) -> Event
         total: event.total,
     }
 }
+
+/// A copy of the event.
+pub fn copy_event(event: &Event) -> Event
+    ensures { result ≡ event.now }
+{
+    Event {
+        line: event.line,
+        player: event.player,
+        rack: event.rack,
+        kind: copy_kind(&event.kind),
+        score: event.score,
+        total: event.total,
+    }
+}

@@ -23,6 +23,7 @@ pub use choices::{
     MOST_ITEMS, chosen_side, is_chosen, many_choices, many_items, many_other_racks, many_racks,
     many_varied, many_with_own_racks,
 };
+pub use copying::copy_event;
 pub use laws::{law_of_itself, law_of_merging};
 pub use merging::{NumbersOf, merge, own_side};
 pub use pairs::{Pair, Side};

@@ -165,6 +165,10 @@ fn furthest_by(
 /// Compares two sheets of one game: tries each choice of their lines and racks.
 ///
 /// It fails only if memory runs out.
+///
+/// The best choice makes a game with its right numbers, and least is wrong on both sheets with it. Each other choice makes no game, costs more, or is
+/// listed as being as good or left open. For each item that is varied it says what becomes of the best choice with the other line or rack; and if no
+/// choice is known to make a game, where the one that goes furthest stops.
 pub fn compare(
     alloc: Global,
     rules: &Rules,

@@ -1,5 +1,5 @@
 //! Audits as trees.
-ghost use Rattle.std.specs.Prelude.{◌≡◌, IfOk, map, option_map};
+ghost use Rattle.std.specs.Prelude.{◌≡◌, codes, slice_get, Some, None, IfOk, map, option_map};
 ghost use Rattle.std.specs.Option.{option_copied};
 ghost use Rattle.json_trees.specs.Trees.{fields_view, view};
 ghost use Rattle.json_trees.specs.Values.{array_of, or_null};
@@ -155,11 +155,72 @@ fn wrong_of(
     Ok(object(fields))
 }
 
+/// A wrong score.
+fn score_tree(
+    alloc: Global,
+    game: &Record,
+    place: usize,
+    player: Seat,
+    written: i32,
+    right: i32,
+) -> Result<Tree, AllocError>
+    ensures { IfOk result (λ tree. view tree ≡ wrong_of game.now (codes "score") (slice_get game.now.events place) player written None (Some right)) }
+{
+    let event = item_at(game.events.as_slice(), place);
+    wrong_of(
+        alloc,
+        game,
+        "score",
+        event,
+        player,
+        written,
+        None,
+        Some(right),
+    )
+}
+
+/// A total that is neither the sum of its line nor the right one.
+fn sum_tree(
+    alloc: Global,
+    game: &Record,
+    place: usize,
+    player: Seat,
+    written: i32,
+    sum: i32,
+    right: Option<i32>,
+) -> Result<Tree, AllocError>
+    ensures { IfOk result (λ tree. view tree ≡ wrong_of game.now (codes "sum") (slice_get game.now.events place) player written (Some sum) right) }
+{
+    let event = item_at(game.events.as_slice(), place);
+    wrong_of(alloc, game, "sum", event, player, written, Some(sum), right)
+}
+
+/// A wrong last total.
+fn total_tree(
+    alloc: Global,
+    game: &Record,
+    player: Seat,
+    written: i32,
+    right: i32,
+) -> Result<Tree, AllocError>
+    ensures { IfOk result (λ tree. view tree ≡ wrong_of game.now (codes "last total") None player written None (Some right)) }
+{
+    wrong_of(
+        alloc,
+        game,
+        "last total",
+        None,
+        player,
+        written,
+        None,
+        Some(right),
+    )
+}
+
 /// A wrong number.
 fn wrong_tree(alloc: Global, game: &Record, number: &ToldNumber) -> Result<Tree, AllocError>
     ensures { IfOk result (λ tree. view tree ≡ wrong_object game.now number.now) }
 {
-    let events = game.events.as_slice();
     match number {
         ToldNumber::Score {
             place,
@@ -167,19 +228,7 @@ fn wrong_tree(alloc: Global, game: &Record, number: &ToldNumber) -> Result<Tree,
             written,
             right,
             ..
-        } => {
-            let event = item_at(events, *place);
-            wrong_of(
-                alloc,
-                game,
-                "score",
-                event,
-                *player,
-                *written,
-                None,
-                Some(*right),
-            )
-        }
+        } => score_tree(alloc, game, *place, *player, *written, *right),
         ToldNumber::Sum {
             place,
             player,
@@ -187,33 +236,12 @@ fn wrong_tree(alloc: Global, game: &Record, number: &ToldNumber) -> Result<Tree,
             sum,
             right,
             ..
-        } => {
-            let event = item_at(events, *place);
-            wrong_of(
-                alloc,
-                game,
-                "sum",
-                event,
-                *player,
-                *written,
-                Some(*sum),
-                *right,
-            )
-        }
+        } => sum_tree(alloc, game, *place, *player, *written, *sum, *right),
         ToldNumber::Total {
             player,
             written,
             right,
-        } => wrong_of(
-            alloc,
-            game,
-            "last total",
-            None,
-            *player,
-            *written,
-            None,
-            Some(*right),
-        ),
+        } => total_tree(alloc, game, *player, *written, *right),
     }
 }
 

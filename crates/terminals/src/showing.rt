@@ -105,6 +105,8 @@ pub fn shown(alloc: Global, bytes: &[u8]) -> Result<Vec<u8>, AllocError>
 
 /// Writes what is shown of bytes.
 ///
+/// That all output to a terminal goes through it, and that nothing else does, is tested.
+///
 /// # Errors
 ///
 /// The writer failed, or memory was refused.

@@ -151,7 +151,7 @@ fn unread_in(alloc: Global, text: &[u8]) -> Result<Vec<UnreadLine>, AllocError>
 
 /// The lines of the text of a record that its reader passes over although they look like events, in their order: those that would be an event but for
 /// what they begin with, and outside notes also those that have a position or a code, and two numbers. A text of more than 1 MiB, which is no record,
-/// has none.
+/// has none. Each has the first reason that holds.
 ///
 /// # Errors
 ///

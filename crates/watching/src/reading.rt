@@ -6,7 +6,7 @@ use crate::reasons::Reason;
 use std::alloc::Global;
 use std::io::{Read, Result};
 
-/// A reader that gives the bytes of another one, and keeps the first of them and why its last failed read failed.
+/// A reader that gives the bytes of another one, and keeps the first of them and why its last failed read failed. That these are kept is tested.
 #[derive(Drop)]
 pub struct WatchedRead<R> {
     inner: R,

@@ -6,7 +6,7 @@ use crate::reasons::Reason;
 use std::alloc::Global;
 use std::io::{Result, Write};
 
-/// A writer that passes bytes on to another one, and keeps the first of them and why its last failed write failed.
+/// A writer that passes bytes on to another one, and keeps the first of them and why its last failed write failed. That these are kept is tested.
 #[derive(Drop)]
 pub struct WatchedWrite<W> {
     inner: W,

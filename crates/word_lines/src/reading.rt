@@ -8,8 +8,9 @@ use crate::sieves::Sieve;
 use std::alloc::Global;
 use std::io::{Read, Result};
 
-/// A reader whose text has nothing in place of each line that is not a word of 2 to 15 letters, as a word list reads it. So lines keep their
-/// numbers. It counts these lines, and keeps the first that is not empty. On request it gives all lines as they are.
+/// A reader whose text has nothing in place of each line that is not a word of 2 to 15 letters, as a word list reads it. So lines keep their numbers.
+/// It counts these lines, and keeps the first that is not empty. On request it gives all lines as they are. How many lines it counts, and which is
+/// the first, is tested.
 #[derive(Drop)]
 pub struct WordLines<R> {
     inner: R,

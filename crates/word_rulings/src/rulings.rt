@@ -46,7 +46,7 @@ fn all_words(list: &WordList, words: &[AskedWord]) -> bool
     true
 }
 
-/// The ruling on words.
+/// The ruling on words: for each whether it is in the list, and for all together whether each is.
 pub fn ruling_on(alloc: Global, list: &WordList, words: &[AskedWord]) -> Result<Ruling, AllocError>
     ensures { IfOk result (IsRuling list.now words.now) }
 {

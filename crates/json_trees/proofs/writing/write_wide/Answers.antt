@@ -1,4 +1,4 @@
-use Rattle.std.proofs.Common.{rules, arith}
+use Rattle.std.proofs.Common.{arith}
 use Rattle.json_trees.proofs.Wide.{wide_number}
 use Rattle.json_trees.proofs.writing.write_wide.Goals as goal
 

@@ -1,4 +1,4 @@
-use Rattle.std.proofs.Common.{◌∙◌, refl, ap, subst, ℕ, List, None}
+use Rattle.std.proofs.Common.{◌∙◌, ap, subst, ℕ, List, None}
 use Rattle.gcg_read.specs.declared.events.Event.{Event}
 use Rattle.lex_check.specs.Pairs.{list_in}
 use Rattle.name_texts.specs.Encodings.{encoding_of}
