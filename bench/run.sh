@@ -2,13 +2,13 @@
 # shellcheck disable=SC2016,SC2094 # a name in Markdown is not a command
 # Measures the program together with `cat` and `sort`, on inputs that it makes, and prints the tables of docs/BENCH.md, in a few minutes:
 #     sh bench/run.sh [PROGRAM [CROSSES]] > tables
-# The program is crates/referee/out/referee, which `extra/prove.sh` leaves, and what measures cross-sets crates/cross_bench/out/cross_bench,
+# The program is crates/referee/out/referee, which `extra/prove.sh` leaves, and what measures cross-sets crates/tool_crosses/out/tool_crosses,
 # unless others are named. Without the second there is no table of cross-sets. Standard error has each row as it is measured. If a command does
 # not end with the status that it has to have, its row says so, and the status is 1.
 set -eu
 here=$(cd "$(dirname "$0")" && pwd)
 program=$(realpath "${1:-$here/../crates/referee/out/referee}")
-crosses=${2:-$here/../crates/cross_bench/out/cross_bench}
+crosses=${2:-$here/../crates/tool_crosses/out/tool_crosses}
 work=$(mktemp -d)
 trap 'rm -rf "$work"' EXIT
 export LC_ALL=C PYTHONDONTWRITEBYTECODE=1

@@ -91,8 +91,9 @@ def table(seen, folders):
     for crate, row in [*((f"`{crate}`", row) for crate, row in rows.items()), ("together", sums)]:
         print(f"| {crate} | {' | '.join(f'{it:.0f}' for it in row)} |")
     program = {"referee"}
-    for line in reversed((TOP / "crates.txt").read_text().splitlines()):  # a crate stands above those that stand on it
-        program |= set(line.split()[1:]) if line.partition(":")[0] in program else set()
+    below = {line.partition(":")[0]: line.split()[1:] for line in (TOP / "crates.txt").read_text().splitlines()}
+    while more := {library for crate in program for library in below.get(crate, ())} - program:
+        program |= more
     whole, proof = sum(sums[:3]) + rest, sum(row[0] for crate, row in rows.items() if crate in program)
     print(f"\nThe rest: {rest:.0f} s. All of it: {whole:.0f} s, {whole / (proof or 1):.1f} times the proof of the program, {proof:.0f} s.")
 

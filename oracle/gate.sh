@@ -1,17 +1,17 @@
 #!/usr/bin/env bash
 # Compares the program with the second judge, in a few minutes: oracle/gate.sh [PROGRAM [TESTS [PROBE [CHANGES]]]]
 #
-# PROGRAM is crates/referee/out/referee, TESTS is crates/hostile_tests/out/hostile_tests_tests, PROBE, which shows what settles a record,
-# is crates/settle_probe/out/settle_probe, and CHANGES, which shows the single changes of a record, is crates/change_probe/out/change_probe,
+# PROGRAM is crates/referee/out/referee, TESTS is crates/test_hostile/out/test_hostile_tests, PROBE, which shows what settles a record,
+# is crates/tool_settle/out/tool_settle, and CHANGES, which shows the single changes of a record, is crates/tool_changes/out/tool_changes,
 # all as `rt ci` leaves them, unless others are named. Each part is stopped after ten minutes, and has failed then; if a part fails, the end of what it said follows its
 # line. Random inputs are drawn from the date, so that each day tries others; with SEED=20270131 in front they are those of that day.
 # The last line is 'N passed, M failed', and the exit status is 0 if nothing failed.
 set -u
 cd "$(dirname "$0")/.." || exit 2
 program=$(realpath -m "${1:-crates/referee/out/referee}")
-tests=$(realpath -m "${2:-crates/hostile_tests/out/hostile_tests_tests}")
-probe=$(realpath -m "${3:-crates/settle_probe/out/settle_probe}")
-changes=$(realpath -m "${4:-crates/change_probe/out/change_probe}")
+tests=$(realpath -m "${2:-crates/test_hostile/out/test_hostile_tests}")
+probe=$(realpath -m "${3:-crates/tool_settle/out/tool_settle}")
+changes=$(realpath -m "${4:-crates/tool_changes/out/tool_changes}")
 seed=${SEED:-$(date -u +%Y%m%d)}
 said=$(mktemp)
 trap 'rm -f "$said"' EXIT

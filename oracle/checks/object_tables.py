@@ -27,16 +27,16 @@ TABLES = [
     ("The object of `repair` for a `bad record`", "repair_json/specs/BadRecords.antt", "slip_fields", ()),
     ("A pair has these keys", "repair_json/specs/Pairs.antt", "pair_fields", ()),
     ("A chain has these keys", "repair_json/specs/Chains.antt", "chain_fields", ()),
-    ("The object of `compare` goes on with", "comparison_json/specs/Answers.antt", "comparison_fields", COMMON),
-    ("`second`, and the `fault` has its name. A difference has these keys", "comparison_json/specs/Differences.antt", "difference_fields", ()),
-    ("The object of `explain` goes on with", "explanation_json/specs/Explained.antt", "explained_fields", (*COMMON, "unread_lines")),
+    ("The object of `compare` goes on with", "compare_json/specs/Answers.antt", "comparison_fields", COMMON),
+    ("`second`, and the `fault` has its name. A difference has these keys", "compare_json/specs/Differences.antt", "difference_fields", ()),
+    ("The object of `explain` goes on with", "explain_json/specs/Explained.antt", "explained_fields", (*COMMON, "unread_lines")),
     ("The object of `top` goes on", "game_json/specs/Plays.antt", "plays_fields", COMMON),
     ("The object of `board` goes on", "sheet_json/specs/Boards.antt", "board_fields", (*COMMON, "unread_lines")),
 ]
 
 # The definitions of the fields that the objects of answers have.
 ANSWERS = [
-    ("answer_json/specs/Refusals.antt", ("checked_fields", "trouble_fields", "no_game_fields")),
+    ("json_base/specs/Refusals.antt", ("checked_fields", "trouble_fields", "no_game_fields")),
     ("game_json/specs/Games.antt", ("judged_fields",)),
     ("game_json/specs/Plays.antt", ("plays_fields",)),
     ("sheet_json/specs/Audits.antt", ("audit_fields",)),
@@ -47,8 +47,8 @@ ANSWERS = [
     ("draft_json/specs/Nexts.antt", ("next_fields",)),
     ("repair_json/specs/Answers.antt", ("faulty_fields", "sound_fields")),
     ("repair_json/specs/BadRecords.antt", ("bad_fields",)),
-    ("comparison_json/specs/Answers.antt", ("comparison_fields",)),
-    ("explanation_json/specs/Explained.antt", ("explained_fields",)),
+    ("compare_json/specs/Answers.antt", ("comparison_fields",)),
+    ("explain_json/specs/Explained.antt", ("explained_fields",)),
 ]
 
 

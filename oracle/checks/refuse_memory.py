@@ -1,6 +1,6 @@
 """Refuses each request for memory in turn, until a run meets no refusal: refuse_memory TESTS [PROGRAM]
 
-TESTS is crates/hostile_tests/out/hostile_tests_tests, which `rt test` makes in that crate, or crates/deal_tests/out/deal_tests_tests; `-`
+TESTS is crates/test_hostile/out/test_hostile_tests, which `rt test` makes in that crate, or crates/test_deals/out/test_deals_tests; `-`
 stands for no tests. Each of its tests with `refused` in its name is run alone, its first request refused, then its second, and so on: the
 test itself says whether what came of it may come. PROGRAM is crates/referee/out/referee: its commands are run on worked rows in the
 same way, and each run has to end with the row's output or with the status 4, `no memory` on standard error and no output; a run of `archive`

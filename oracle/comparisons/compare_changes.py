@@ -1,6 +1,6 @@
 """Compares the single changes of records with those that the second judge lists: compare_changes PROBE CASES SEED.
 
-The probe (`crates/change_probe`) shows each change at the places up to the first event that is not allowed: the place, what it weighs, and the
+The probe (`crates/tool_changes`) shows each change at the places up to the first event that is not allowed: the place, what it weighs, and the
 whole record with the change. The second judge has to list the same ones in the same order.
 """
 from boards import Refused

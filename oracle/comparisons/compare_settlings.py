@@ -1,4 +1,4 @@
-"""Settles really dealt games, such games with a rack spoiled and small records by `settle_probe`, and checks each deal and each
+"""Settles really dealt games, such games with a rack spoiled and small records by `tool_settle`, and checks each deal and each
 cut: compare_settlings PROBE CASES SEED. Each real game has to be settled with a deal. Of small records all deals are tried.
 
 The probe is run on many records at once. How many came to which answer is told for each style of record, and the processor time. The table before the

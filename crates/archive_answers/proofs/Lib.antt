@@ -1,4 +1,4 @@
 pub mod Greatest
 pub mod Keeping
-pub mod Telling
+pub mod Reporting
 pub mod Running

@@ -19,7 +19,7 @@ use Rattle.archive_answers.specs.Words.{AreWordsAsked, no_words}
 
 -- What is told of the case of a text by the name of its game. The line says what was read, and on request what was found of its likely repair and whether
 -- it has a page; the index shows words of it in addition; and the case is kept, on request with its likely repair and with what its page shows.
-pub record TellsCase (asked : Asked) (rules : Rules) (list : List (List ℕ)) (name : Bor (List ℕ)) (text : List ℕ) (case : Case) (game : ArchivedGame) : Type 0 where
+pub record ReportsCase (asked : Asked) (rules : Rules) (list : List (List ℕ)) (name : Bor (List ℕ)) (text : List ℕ) (case : Case) (game : ArchivedGame) : Type 0 where
   pub likely : Option Likely
   pub repair : IsLikelyAsked asked.likely rules list text case.read likely
   pub plain : Fields
@@ -30,10 +30,10 @@ pub record TellsCase (asked : Asked) (rules : Rules) (list : List (List ℕ)) (n
   pub sheet : IsSheetOf asked.likely asked.page rules list text case likely game.sheet
 
 -- the same of the game of a text
-pub record IsToldGame (asked : Asked) (rules : Rules) (list : List (List ℕ)) (name : Bor (List ℕ)) (text : List ℕ) (game : ArchivedGame) : Type 0 where
+pub record IsReportedGame (asked : Asked) (rules : Rules) (list : List (List ℕ)) (name : Bor (List ℕ)) (text : List ℕ) (game : ArchivedGame) : Type 0 where
   pub case : Case
   pub opened : IsCaseOf rules list text case
-  pub told : TellsCase asked rules list name text case game
+  pub reported : ReportsCase asked rules list name text case game
 
 -- what is told of a file that could not be read
 pub record IsUnreadGame (asked : Asked) (name : Bor (List ℕ)) (why : Unread) (game : ArchivedGame) : Type 0 where

@@ -3,8 +3,8 @@ use Rattle.std.specs.Prelude.{◌≡◌, ℕ, Bool, true, false, List, length, i
 use Rattle.std.specs.Borrow.{Bor}
 use Rattle.gcg_read.specs.declared.faults.ReadFault.{ReadFault}
 use Rattle.game_case.specs.declared.entries.Entry.{Entry}
-use Rattle.name_texts.specs.Encodings.{encoding_of}
-use Rattle.unread_lines.specs.Lines.{unread_of}
+use Rattle.gcg_names.specs.Encodings.{encoding_of}
+use Rattle.gcg_unread.specs.Lines.{unread_of}
 use Rattle.repair_answers.specs.declared.likely.Likely.{Likely}
 use Rattle.archive_lines.specs.declared.fields.Fields.{Fields}
 use Rattle.archive_lines.specs.declared.likely.LikelyFields.{LikelyFields}
@@ -12,12 +12,12 @@ use Rattle.archive_lines.specs.declared.pages.PageField.{PageField}
 use Rattle.archive_lines.specs.Said.{SaysEntry, SaysBadRecord}
 
 -- how many lines of a text are not read although they look like events
-abbrev pub many_unread : (text : List ℕ) → ℕ
-many_unread text = length (unread_of text)
+abbrev pub count_unread : (text : List ℕ) → ℕ
+count_unread text = length (unread_of text)
 
 -- what the line says of what was read from a text, but for what it says only if it is asked for
 abbrev pub SaysRead : (name : Bor (List ℕ)) → (text : List ℕ) → Result Entry ReadFault → Fields → Type 0
-SaysRead name text (Ok entry) f = SaysEntry name entry (encoding_of text) (many_unread text) f
+SaysRead name text (Ok entry) f = SaysEntry name entry (encoding_of text) (count_unread text) f
 SaysRead name text (Err fault) f = SaysBadRecord name fault f
 
 -- a record has a likely repair

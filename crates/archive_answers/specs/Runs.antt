@@ -34,9 +34,9 @@ abbrev pub IsLostGame : Asked → (name : Bor (List ℕ)) → ArchivedGame → T
 IsLostGame asked name game = (unread : ArchivedGame) × IsUnreadGame asked name why.NoMemory unread × (game ≡ without_page (is_some asked.page) unread)
 
 -- what the line of a game says: what is told of the game, or that there was no memory for that
-abbrev pub IsToldIn : Asked → ArchivedGame → Fields → Type 0
-IsToldIn asked game f = (f ≡ game.fields) ⊎ (lost : ArchivedGame) × IsLostGame asked game.fields.name lost × (f ≡ lost.fields)
+abbrev pub IsReportedIn : Asked → ArchivedGame → Fields → Type 0
+IsReportedIn asked game f = (f ≡ game.fields) ⊎ (lost : ArchivedGame) × IsLostGame asked game.fields.name lost × (f ≡ lost.fields)
 
 -- a run has told this game
 abbrev pub HasLineOf : Asked → ArchivedGame → (old new : RunLines) → Type 0
-HasLineOf asked game old new = (f : Fields) × IsToldIn asked game f × HasLine f old new
+HasLineOf asked game old new = (f : Fields) × IsReportedIn asked game f × HasLine f old new

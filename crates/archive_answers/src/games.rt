@@ -1,11 +1,11 @@
 //! What is told of one game of an archive.
 ghost use Rattle.std.specs.Prelude.{◌≡◌, ℕ, List, IfOk};
-ghost use Rattle.devices.specs.Devices.{HasRoom};
+ghost use Rattle.io_devices.specs.Devices.{HasRoom};
 ghost use Rattle.gcg_read.specs.Records.{most_bytes};
 ghost use Rattle.lex_check.specs.Pairs.{list_in};
-ghost use Rattle.call_stages.specs.Stages.{IsRead};
+ghost use Rattle.engine_stages.specs.Stages.{IsRead};
 ghost use Rattle.game_case.specs.Explaining.{IsCaseOf, HasItsWalk};
-ghost use Rattle.archive_answers.specs.Games.{TellsCase, IsToldGame, IsUnreadGame, with_page};
+ghost use Rattle.archive_answers.specs.Games.{ReportsCase, IsReportedGame, IsUnreadGame, with_page};
 ghost use Rattle.archive_answers.specs.Runs.{IsLostGame};
 
 use crate::asked::Asked;
@@ -14,9 +14,9 @@ use crate::lines::{case_fields, with_asked};
 use crate::sheets::{GameSheet, page_before, sheet_of};
 use crate::words::{RowWords, no_words, words_asked};
 use archive_lines::{Fields, PageField, Unread};
-use call_stages::RunFault;
-use devices::Input;
+use engine_stages::RunFault;
 use game_case::{Case, open_case};
+use io_devices::Input;
 use lex_check::Checked;
 use page_answers::likely_asked;
 use ref_tiles::Rules;
@@ -35,7 +35,7 @@ pub struct ArchivedGame<'n> {
 
 impl ArchivedGame<'_> {
     /// Has the line say this of the page.
-    pub fn tell_page(&mut self, page: PageField)
+    pub fn report_page(&mut self, page: PageField)
         ensures { self.new ≡ with_page self.old page }
     {
         self.fields.page = Some(page);
@@ -43,7 +43,7 @@ impl ArchivedGame<'_> {
 }
 
 /// What is told of the case of a game of this name.
-fn tell_case<'n>(
+fn report_case<'n>(
     alloc: Global,
     rules: &Rules,
     pair: &Checked<'_>,
@@ -53,7 +53,7 @@ fn tell_case<'n>(
 ) -> Result<ArchivedGame<'n>, AllocError>
     requires { HasItsWalk rules.now (list_in pair.now) case }
     ensures { IfOk result (λ game. (text : List ℕ) → IsCaseOf rules.now (list_in pair.now) text case
-        → TellsCase asked.now rules.now (list_in pair.now) name.entry text case game) }
+        → ReportsCase asked.now rules.now (list_in pair.now) name.entry text case game) }
 {
     let mut case = case;
     let paged = asked.page.is_some();
@@ -79,7 +79,7 @@ fn tell_case<'n>(
 /// # Errors
 ///
 /// `ReadFailed` comes only if the input failed; `NoMemory` if memory was refused.
-pub fn tell_game<'n, G: Input>(
+pub fn report_game<'n, G: Input>(
     alloc: Global,
     rules: &Rules,
     pair: &Checked<'_>,
@@ -88,10 +88,10 @@ pub fn tell_game<'n, G: Input>(
     game: &mut G,
 ) -> Result<ArchivedGame<'n>, RunFault>
     requires { HasRoom (G.device game.old) }
-    ensures { IsRead most_bytes (G.device game.old) (G.device game.new) (IsToldGame asked.now rules.now (list_in pair.now) name.entry) result }
+    ensures { IsRead most_bytes (G.device game.old) (G.device game.new) (IsReportedGame asked.now rules.now (list_in pair.now) name.entry) result }
 {
     let case = open_case(alloc, rules, pair, game)?;
-    Ok(tell_case(alloc, rules, pair, asked, name, case)?)
+    Ok(report_case(alloc, rules, pair, asked, name, case)?)
 }
 
 /// What is told of the game of this name if its file could not be read.
@@ -113,7 +113,7 @@ pub(crate) fn lost_game<'n>(asked: &Asked<'_>, name: &'n str) -> ArchivedGame<'n
 {
     let mut game = unread_game(asked, name, Unread::NoMemory);
     if asked.page.is_some() {
-        game.tell_page(PageField::NoMemory);
+        game.report_page(PageField::NoMemory);
     }
     game
 }

@@ -4,8 +4,8 @@ ghost use Rattle.archive_answers.specs.Lines.{has_repair, SaysChange, SaysLikely
 
 use archive_lines::LikelyFields;
 use game_case::Case;
+use gcg_names::Encoding;
 use gcg_read::Record;
-use name_texts::Encoding;
 use repair_answers::Likely;
 use repair_lines::{push_likely_change, push_likely_numbers};
 use std::alloc::{AllocError, Global};

@@ -1,14 +1,14 @@
 //! What the line of a game says.
 ghost use Rattle.std.specs.Prelude.{◌≡◌, IfOk};
 ghost use Rattle.archive_lines.specs.Said.{SaysEntry};
-ghost use Rattle.name_texts.specs.Encodings.{encoding_of};
-ghost use Rattle.archive_answers.specs.Lines.{many_unread, SaysRead, with_asked};
+ghost use Rattle.gcg_names.specs.Encodings.{encoding_of};
+ghost use Rattle.archive_answers.specs.Lines.{count_unread, SaysRead, with_asked};
 
 use archive_lines::{Fields, LikelyFields, PageField};
 use game_case::{Case, Entry};
-use name_texts::Encoding;
+use gcg_names::Encoding;
+use gcg_unread::unread_lines;
 use std::alloc::{AllocError, Global};
-use unread_lines::unread_lines;
 
 /// What the line of an entry says, by the text of its record.
 fn entry_fields<'n>(
@@ -17,7 +17,7 @@ fn entry_fields<'n>(
     entry: &Entry,
     text: &[u8],
 ) -> Result<Fields<'n>, AllocError>
-    ensures { IfOk result (SaysEntry name.entry entry.now (encoding_of text.now) (many_unread text.now)) }
+    ensures { IfOk result (SaysEntry name.entry entry.now (encoding_of text.now) (count_unread text.now)) }
 {
     let unread = unread_lines(alloc, text)?.len();
     Fields::of_entry(alloc, name, entry, Encoding::of(text), unread)

@@ -6,7 +6,7 @@ ghost use Rattle.archive_answers.specs.Rows.{shown, page_name, name_of, change_o
 
 use crate::games::ArchivedGame;
 use archive_lines::{Answer, Ending, Lead, LikelyFields, PageField, lead_of};
-use file_kinds::FileKind;
+use io_kinds::FileKind;
 use std::alloc::Global;
 use std::borrow::CowStr;
 

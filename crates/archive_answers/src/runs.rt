@@ -6,7 +6,7 @@ use crate::asked::Asked;
 use crate::exits::exit_of_line;
 use crate::games::{ArchivedGame, lost_game};
 use archive_lines::{Fields, push_json_line, push_tab_line};
-use exit_statuses::Exit;
+use cli_exits::Exit;
 use std::alloc::{AllocError, Global};
 
 /// Makes the line of these fields: a JSON object, or the fields with tabs between them.
@@ -54,8 +54,8 @@ impl RunLines {
     }
 
     /// Makes the line of these fields, and counts its status. If memory runs out, how the run ends stays as it was.
-    fn tell(&mut self, alloc: Global, fields: &Fields<'_>) -> Result<(), AllocError>
-        ensures told { OnOk result (HasLine fields.now self.old self.new) }
+    fn report(&mut self, alloc: Global, fields: &Fields<'_>) -> Result<(), AllocError>
+        ensures reported { OnOk result (HasLine fields.now self.old self.new) }
         ensures form { self.new.json ≡ self.old.json }
         ensures ends { OnErr result (self.new.worst ≡ self.old.worst) }
     {
@@ -77,11 +77,11 @@ impl RunLines {
     ) -> Result<(), AllocError>
         ensures { OnOk result (HasLineOf asked.now game.now self.old self.new) }
     {
-        match self.tell(alloc, &game.fields) {
+        match self.report(alloc, &game.fields) {
             Ok(()) => Ok(()),
             Err(_) => {
                 let lost = lost_game(asked, game.fields.name);
-                self.tell(alloc, &lost.fields)
+                self.report(alloc, &lost.fields)
             }
         }
     }

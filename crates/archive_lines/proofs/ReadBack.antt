@@ -1,18 +1,18 @@
 -- A reader has the fields of a line again.
 use Rattle.std.proofs.Common.{◌≡◌, ℕ, ◌∷◌, ◌++◌, length, Option, Some, None, refl, ap, ◌∙◌}
-use Rattle.tab_lines.proofs.ReadBack as lines
+use Rattle.text_tabs.proofs.ReadBack as lines
 use Rattle.archive_lines.specs.declared.fields.Fields.{Fields}
 use Rattle.archive_lines.specs.declared.likely.LikelyFields.{LikelyFields}
 use Rattle.archive_lines.specs.declared.pages.PageField.{PageField}
-use Rattle.archive_lines.specs.Tabs.{verdict_told, record_told, rest_told, told}
-use Rattle.archive_lines.specs.Laws.{IsReadBack, many_with, HasSoMany, IsOneLine}
+use Rattle.archive_lines.specs.Tabs.{verdict_reported, record_reported, rest_reported, reported}
+use Rattle.archive_lines.specs.Laws.{IsReadBack, count_with, HasSoMany, IsOneLine}
 
 pub read_again : IsReadBack
-read_again f = lines.read_back f.name.now (verdict_told f ++ (record_told f ++ rest_told f.page f.likely f.unread_lines))
+read_again f = lines.read_back f.name.now (verdict_reported f ++ (record_reported f ++ rest_reported f.page f.likely f.unread_lines))
 
 -- 12 fields, that of the page, and those of the likely repair
 counted : (f : Fields) (page : Option PageField) (likely : Option LikelyFields) (unread : Option ℕ)
-    → length (f.name.now ∷ (verdict_told f ++ (record_told f ++ rest_told page likely unread))) ≡ many_with page likely
+    → length (f.name.now ∷ (verdict_reported f ++ (record_reported f ++ rest_reported page likely unread))) ≡ count_with page likely
 counted f None None unread = refl
 counted f (Some page) None unread = refl
 counted f None (Some likely) unread = refl
@@ -22,4 +22,4 @@ pub so_many : HasSoMany
 so_many f = ap length (read_again f) ∙ counted f f.page f.likely f.unread_lines
 
 pub no_feed : IsOneLine
-no_feed f = lines.one_line (told f)
+no_feed f = lines.one_line (reported f)

@@ -4,9 +4,9 @@ use Rattle.std.specs.List.{before_first}
 use Rattle.text_lines.specs.Fields.{is_blank}
 use Rattle.gcg_read.specs.declared.faults.ReadFault.{ReadFault}
 use Rattle.game_turns.specs.declared.faults.RuleFault.TheVariants as rule
-use Rattle.call_stages.specs.declared.verdicts.GameFault.{GameFault}
-use Rattle.call_stages.specs.declared.verdicts.GameFault.TheVariants as game
-use Rattle.call_stages.specs.Reports.{fault_text}
+use Rattle.engine_stages.specs.declared.verdicts.GameFault.{GameFault}
+use Rattle.engine_stages.specs.declared.verdicts.GameFault.TheVariants as game
+use Rattle.engine_stages.specs.Reports.{fault_text}
 use Rattle.game_case.specs.declared.findings.Finding.{Finding}
 use Rattle.game_case.specs.declared.findings.Finding.TheVariants as finding
 

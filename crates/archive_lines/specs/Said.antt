@@ -6,9 +6,9 @@ use Rattle.std.specs.Cow.{cow_str_bytes}
 use Rattle.gcg_read.specs.declared.events.Seat.TheVariants.{First, Second}
 use Rattle.gcg_read.specs.declared.faults.ReadFault.{ReadFault}
 use Rattle.gcg_read.specs.Faults as read
-use Rattle.game_sheets.specs.LastTotals.{last_total}
+use Rattle.game_corrections.specs.LastTotals.{last_total}
 use Rattle.game_case.specs.declared.entries.Entry.{Entry}
-use Rattle.name_texts.specs.declared.encodings.Encoding.{Encoding}
+use Rattle.gcg_names.specs.declared.encodings.Encoding.{Encoding}
 use Rattle.archive_lines.specs.declared.answers.Answer.{Answer}
 use Rattle.archive_lines.specs.declared.answers.Answer.TheVariants as answer
 use Rattle.archive_lines.specs.declared.answers.Unread.{Unread}

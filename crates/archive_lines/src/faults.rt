@@ -4,10 +4,10 @@ ghost use Rattle.std.specs.String.{string_bytes};
 ghost use Rattle.std.specs.Cow.{cow_str_bytes};
 ghost use Rattle.std.specs.List.{before_first};
 ghost use Rattle.text_lines.specs.Fields.{is_blank};
-ghost use Rattle.call_stages.specs.Reports.{fault_text};
+ghost use Rattle.engine_stages.specs.Reports.{fault_text};
 ghost use Rattle.archive_lines.specs.Faults.{line_in, line_of_fault, fault_in, name_in, expected_of, expected_in};
 
-use call_stages::{GameFault, fault_text};
+use engine_stages::{GameFault, fault_text};
 use game_case::Finding;
 use game_turns::RuleFault;
 use gcg_read::ReadFault;

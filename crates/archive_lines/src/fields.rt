@@ -9,8 +9,8 @@ use crate::likely::LikelyFields;
 use crate::pages::PageField;
 use crate::players::{nick_of, total_of};
 use game_case::Entry;
+use gcg_names::Encoding;
 use gcg_read::{ReadFault, Seat};
-use name_texts::Encoding;
 use std::alloc::{AllocError, Global};
 use std::borrow::CowStr;
 

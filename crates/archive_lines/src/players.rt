@@ -1,12 +1,12 @@
 //! What a line says of a player.
 ghost use Rattle.std.specs.Prelude.{◌≡◌, IfOk, option_map};
 ghost use Rattle.std.specs.String.{string_bytes};
-ghost use Rattle.game_sheets.specs.LastTotals.{last_total};
+ghost use Rattle.game_corrections.specs.LastTotals.{last_total};
 ghost use Rattle.archive_lines.specs.Players.{nick_of};
 
-use game_sheets::last_total;
+use game_corrections::last_total;
+use gcg_names::Encoding;
 use gcg_read::{Event, Player, Seat};
-use name_texts::Encoding;
 use std::alloc::{AllocError, Global};
 
 /// The last total of a player.

@@ -2,10 +2,10 @@
 ghost use Rattle.std.specs.Prelude.{◌≡◌, ◌++◌, ◌∷◌, OnOk, option_map};
 ghost use Rattle.std.specs.String.{string_bytes};
 ghost use Rattle.std.specs.Cow.{cow_str_bytes};
-ghost use Rattle.tab_lines.specs.Lines.{escaped};
+ghost use Rattle.text_tabs.specs.Lines.{escaped};
 ghost use Rattle.archive_lines.specs.Answers.{ending_text};
 ghost use Rattle.archive_lines.specs.Pages.{page_text};
-ghost use Rattle.archive_lines.specs.Tabs.{shown, behind, verdict_told, record_told, page_told, likely_told, unread_told, rest_told, tab_line};
+ghost use Rattle.archive_lines.specs.Tabs.{shown, following, verdict_reported, record_reported, page_reported, likely_reported, unread_reported, rest_reported, tab_line};
 
 use crate::answers::Ending;
 use crate::fields::Fields;
@@ -14,7 +14,7 @@ use crate::pages::PageField;
 use itoa::{Buffer, Integer};
 use std::alloc::{AllocError, Global};
 use std::borrow::CowStr;
-use tab_lines::{push_escaped, push_field};
+use text_tabs::{push_escaped, push_field};
 
 /// Appends the field of a text, or of none.
 fn push_text(line: &mut Vec<u8>, text: Option<&str>) -> Result<(), AllocError>
@@ -71,7 +71,7 @@ fn push_owned(line: &mut Vec<u8>, text: &Option<String>) -> Result<(), AllocErro
 
 /// Appends the fields that say what the verdict is.
 fn push_verdict(line: &mut Vec<u8>, fields: &Fields<'_>) -> Result<(), AllocError>
-    ensures { OnOk result (line.new.items ≡ line.old.items ++ behind (verdict_told fields.now)) }
+    ensures { OnOk result (line.new.items ≡ line.old.items ++ following (verdict_reported fields.now)) }
 {
     push_field(line, fields.verdict.name().as_bytes())?;
     push_ending(line, fields.ending)?;
@@ -81,7 +81,7 @@ fn push_verdict(line: &mut Vec<u8>, fields: &Fields<'_>) -> Result<(), AllocErro
 
 /// Appends the fields that say what the record has.
 fn push_record(line: &mut Vec<u8>, fields: &Fields<'_>) -> Result<(), AllocError>
-    ensures { OnOk result (line.new.items ≡ line.old.items ++ behind (record_told fields.now)) }
+    ensures { OnOk result (line.new.items ≡ line.old.items ++ following (record_reported fields.now)) }
 {
     push_known(line, fields.events)?;
     push_owned(line, &fields.player1)?;
@@ -93,7 +93,7 @@ fn push_record(line: &mut Vec<u8>, fields: &Fields<'_>) -> Result<(), AllocError
 
 /// Appends the field of the page, if pages are made.
 fn push_page(line: &mut Vec<u8>, page: &Option<PageField>) -> Result<(), AllocError>
-    ensures { OnOk result (line.new.items ≡ line.old.items ++ behind (page_told page.now)) }
+    ensures { OnOk result (line.new.items ≡ line.old.items ++ following (page_reported page.now)) }
 {
     match page {
         None => Ok(()),
@@ -103,7 +103,7 @@ fn push_page(line: &mut Vec<u8>, page: &Option<PageField>) -> Result<(), AllocEr
 
 /// Appends the fields of the likely repair, if repairs are looked for.
 fn push_likely(line: &mut Vec<u8>, likely: &Option<LikelyFields>) -> Result<(), AllocError>
-    ensures { OnOk result (line.new.items ≡ line.old.items ++ behind (likely_told likely.now)) }
+    ensures { OnOk result (line.new.items ≡ line.old.items ++ following (likely_reported likely.now)) }
 {
     match likely {
         None => Ok(()),
@@ -116,7 +116,7 @@ fn push_likely(line: &mut Vec<u8>, likely: &Option<LikelyFields>) -> Result<(), 
 
 /// Appends the field with the number of lines that are not read.
 fn push_unread(line: &mut Vec<u8>, unread: Option<usize>) -> Result<(), AllocError>
-    ensures { OnOk result (line.new.items ≡ line.old.items ++ behind (unread_told unread)) }
+    ensures { OnOk result (line.new.items ≡ line.old.items ++ following (unread_reported unread)) }
 {
     push_known(line, unread)
 }
@@ -124,7 +124,7 @@ fn push_unread(line: &mut Vec<u8>, unread: Option<usize>) -> Result<(), AllocErr
 /// Appends the fields of the likely repair, if repairs are looked for, and how many lines are not read.
 #[tactic(auto, using(crate::proofs::Joined::two_parts))]
 fn push_end(line: &mut Vec<u8>, fields: &Fields<'_>) -> Result<(), AllocError>
-    ensures { OnOk result (line.new.items ≡ line.old.items ++ behind (likely_told fields.now.likely ++ unread_told fields.now.unread_lines)) }
+    ensures { OnOk result (line.new.items ≡ line.old.items ++ following (likely_reported fields.now.likely ++ unread_reported fields.now.unread_lines)) }
 {
     push_likely(line, &fields.likely)?;
     push_unread(line, fields.unread_lines)
@@ -133,7 +133,7 @@ fn push_end(line: &mut Vec<u8>, fields: &Fields<'_>) -> Result<(), AllocError>
 /// Appends the fields after those that each line has: those that a line has only on request, and how many lines are not read.
 #[tactic(auto, using(crate::proofs::Joined::two_parts))]
 fn push_rest(line: &mut Vec<u8>, fields: &Fields<'_>) -> Result<(), AllocError>
-    ensures { OnOk result (line.new.items ≡ line.old.items ++ behind (rest_told fields.now.page fields.now.likely fields.now.unread_lines)) }
+    ensures { OnOk result (line.new.items ≡ line.old.items ++ following (rest_reported fields.now.page fields.now.likely fields.now.unread_lines)) }
 {
     push_page(line, &fields.page)?;
     push_end(line, fields)

@@ -92,15 +92,15 @@ pub record Draws (seat : Seat) (h after : Hands) : Type 0 where
   pub long : length (rack_of after.racks seat) ≡ 27
   pub bag_long : length after.bag ≡ 27
 
-draws_to : (seat : Seat) (h after : Hands) (p : Pick) → IsOf h.bag p → rack_of after.racks seat ≡ joined (rack_of h.racks seat) p.taken → after.bag ≡ p.left
+draws_to : (seat : Seat) (h after : Hands) (p : Pick) → IsOf h.bag p → rack_of after.racks seat ≡ joined (rack_of h.racks seat) p.taken → after.bag ≡ p.remaining
     → rack_of after.racks (other_seat seat) ≡ rack_of h.racks (other_seat seat) → Draws seat h after
-draws_to seat h after p is own left stays =
+draws_to seat h after p is own remaining stays =
     record {
-      whole = λ k below. let e = ap (at k) own ∙ get-joined (rack_of h.racks seat) p.taken k below in let l = ap (at k) left in let w = is.whole k below in omega arith;
+      whole = λ k below. let e = ap (at k) own ∙ get-joined (rack_of h.racks seat) p.taken k below in let l = ap (at k) remaining in let w = is.whole k below in omega arith;
       more = λ k below. let e = ap (at k) own ∙ get-joined (rack_of h.racks seat) p.taken k below in omega arith;
       stays = stays;
       long = ap length own ∙ length-joined (rack_of h.racks seat) p.taken;
-      bag_long = ap length left ∙ is.left_long;
+      bag_long = ap length remaining ∙ is.remaining_long;
     }
 
 draws_by : (seat : Seat) (h : Hands) (p : Pick) → IsOf h.bag p → Draws seat h (put_drawn seat h p)

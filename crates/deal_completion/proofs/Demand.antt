@@ -11,10 +11,10 @@ use Rattle.ref_tiles.specs.Counting.{no_tiles}
 use Rattle.gcg_read.specs.declared.events.Seat.{Seat}
 use Rattle.deal_steps.specs.declared.steps.Step.{Step}
 use Rattle.deal_steps.specs.Piles.{kinds, joined, greater}
-use Rattle.deal_steps.specs.Steps.{left_in, ends_epoch, needed}
+use Rattle.deal_steps.specs.Steps.{remaining_in, ends_epoch, needed}
 use Rattle.deal_steps.proofs.PileLaws.{get-joined, get-greater, get-no_tiles, sum_of_sums, sum_kinds_same}
 use Rattle.deal_completion.specs.Completion.{lacking, with_gone, wanted}
-use Rattle.deal_completion.proofs.WantLaws.{lacks_from, asked_or_none, left_asked}
+use Rattle.deal_completion.proofs.WantLaws.{lacks_from, asked_or_none, remaining_asked}
 
 -- how often a kind is in a list
 abbrev pub often : ℕ → List ℕ → ℕ
@@ -76,7 +76,7 @@ length-lacking asked have =
 -- for each kind, the most that is asked for at a later moment, plus what leaves the rack before it
 abbrev pub demand : Seat → List Step → ℕ → ℕ
 demand seat [] k = 0
-demand seat (s ∷ steps) k = max (get_or (asked_or_none (needed seat s)) k 0) (get_or (left_in seat s) k 0 + demand seat steps k)
+demand seat (s ∷ steps) k = max (get_or (asked_or_none (needed seat s)) k 0) (get_or (remaining_in seat s) k 0 + demand seat steps k)
 
 -- no exchange of unknown tiles
 abbrev pub IsKnownThroughout : Seat → List Step → Type 0
@@ -88,29 +88,29 @@ known_front seat [] ys known = tt
 known_front seat (x ∷ xs) ys known = (known.0, known_front seat xs ys known.1)
 
 -- what a moment adds to a want list, and what is had after it
-wanted_step : (o : Option (List ℕ)) (gone have left : List ℕ) (d k : ℕ) → k < 27 → get_or gone k 0 ≤ get_or have k 0 → get_or left k 0 ≤ get_or (asked_or_none o) k 0
-    → (get_or (with_gone gone o) k 0 - get_or have k 0) + ((get_or (joined gone left) k 0 + d) - get_or (greater have (with_gone gone o)) k 0)
-    ≡ (get_or gone k 0 + max (get_or (asked_or_none o) k 0) (get_or left k 0 + d)) - get_or have k 0
-wanted_step None gone have left d k h le less =
+wanted_step : (o : Option (List ℕ)) (gone have remaining : List ℕ) (d k : ℕ) → k < 27 → get_or gone k 0 ≤ get_or have k 0 → get_or remaining k 0 ≤ get_or (asked_or_none o) k 0
+    → (get_or (with_gone gone o) k 0 - get_or have k 0) + ((get_or (joined gone remaining) k 0 + d) - get_or (greater have (with_gone gone o)) k 0)
+    ≡ (get_or gone k 0 + max (get_or (asked_or_none o) k 0) (get_or remaining k 0 + d)) - get_or have k 0
+wanted_step None gone have remaining d k h le less =
     let z = get-no_tiles k h in
-    let a = get-joined gone left k h in
+    let a = get-joined gone remaining k h in
     let b = get-greater have no_tiles k h in
     omega arith
-wanted_step (Some tiles) gone have left d k h le less =
-    let a = get-joined gone left k h in
+wanted_step (Some tiles) gone have remaining d k h le less =
+    let a = get-joined gone remaining k h in
     let t = get-joined gone tiles k h in
     let b = get-greater have (joined gone tiles) k h in
     omega arith
 
-had_step : (o : Option (List ℕ)) (gone have left : List ℕ) (k : ℕ) → k < 27 → get_or gone k 0 ≤ get_or have k 0 → get_or left k 0 ≤ get_or (asked_or_none o) k 0
-    → get_or (joined gone left) k 0 ≤ get_or (greater have (with_gone gone o)) k 0
-had_step None gone have left k h le less =
+had_step : (o : Option (List ℕ)) (gone have remaining : List ℕ) (k : ℕ) → k < 27 → get_or gone k 0 ≤ get_or have k 0 → get_or remaining k 0 ≤ get_or (asked_or_none o) k 0
+    → get_or (joined gone remaining) k 0 ≤ get_or (greater have (with_gone gone o)) k 0
+had_step None gone have remaining k h le less =
     let z = get-no_tiles k h in
-    let a = get-joined gone left k h in
+    let a = get-joined gone remaining k h in
     let b = get-greater have no_tiles k h in
     omega arith
-had_step (Some tiles) gone have left k h le less =
-    let a = get-joined gone left k h in
+had_step (Some tiles) gone have remaining k h le less =
+    let a = get-joined gone remaining k h in
     let t = get-joined gone tiles k h in
     let b = get-greater have (joined gone tiles) k h in
     omega arith
@@ -118,10 +118,10 @@ had_step (Some tiles) gone have left k h le less =
 -- a want list if no epoch ends
 wanted_on : (seat : Seat) (s : Step) (steps : List Step) (gone have : List ℕ) → ends_epoch seat s ≡ false
     → wanted seat (s ∷ steps) gone have
-    ≡ lacking (with_gone gone (needed seat s)) have ++ wanted seat steps (joined gone (left_in seat s)) (greater have (with_gone gone (needed seat s)))
+    ≡ lacking (with_gone gone (needed seat s)) have ++ wanted seat steps (joined gone (remaining_in seat s)) (greater have (with_gone gone (needed seat s)))
 wanted_on seat s steps gone have known =
     ap (λ (b : Bool). lacking (with_gone gone (needed seat s)) have
-    ++ (if b then [] else wanted seat steps (joined gone (left_in seat s)) (greater have (with_gone gone (needed seat s))))) known
+    ++ (if b then [] else wanted seat steps (joined gone (remaining_in seat s)) (greater have (with_gone gone (needed seat s))))) known
 
 -- The closed form: a kind is wanted as often as the later moments ask for it, minus what the player has.
 pub often-wanted : (seat : Seat) (steps : List Step) (gone have : List ℕ) (k : ℕ) → IsKnownThroughout seat steps → k < 27 → get_or gone k 0 ≤ get_or have k 0
@@ -129,14 +129,14 @@ pub often-wanted : (seat : Seat) (steps : List Step) (gone have : List ℕ) (k :
 often-wanted seat [] gone have k known h le = omega arith
 often-wanted seat (s ∷ steps) gone have k known h le =
     let o = needed seat s in
-    let left = left_in seat s in
-    let less : get_or left k 0 ≤ get_or (asked_or_none o) k 0 = left_asked seat s.player s.act k h in
-    let more = had_step o gone have left k h le less in
-    let rest = often-wanted seat steps (joined gone left) (greater have (with_gone gone o)) k known.1 h more in
+    let remaining = remaining_in seat s in
+    let less : get_or remaining k 0 ≤ get_or (asked_or_none o) k 0 = remaining_asked seat s.player s.act k h in
+    let more = had_step o gone have remaining k h le less in
+    let rest = often-wanted seat steps (joined gone remaining) (greater have (with_gone gone o)) k known.1 h more in
     let here = often-lacking (with_gone gone o) have k h in
-    let math = wanted_step o gone have left (demand seat steps k) k h le less in
-    let both = often-append k (lacking (with_gone gone o) have) (wanted seat steps (joined gone left) (greater have (with_gone gone o))) in
-    ap (often k) (wanted_on seat s steps gone have known.0) ∙ both ∙ ap (λ (n : ℕ). n + often k (wanted seat steps (joined gone left) (greater have (with_gone gone o)))) here
+    let math = wanted_step o gone have remaining (demand seat steps k) k h le less in
+    let both = often-append k (lacking (with_gone gone o) have) (wanted seat steps (joined gone remaining) (greater have (with_gone gone o))) in
+    ap (often k) (wanted_on seat s steps gone have known.0) ∙ both ∙ ap (λ (n : ℕ). n + often k (wanted seat steps (joined gone remaining) (greater have (with_gone gone o)))) here
     ∙ ap (λ (n : ℕ). (get_or (with_gone gone o) k 0 - get_or have k 0) + n) rest ∙ math
 
 pub sum_of_none : (xs : List ℕ) → sum_by (λ k. 0) xs ≡ 0
@@ -154,13 +154,13 @@ wanted_front seat [] after gone have known = (wanted seat after gone have, refl)
 wanted_front seat (s ∷ before) after gone have known =
     let o = needed seat s in
     let here = lacking (with_gone gone o) have in
-    let went = joined gone (left_in seat s) in
+    let went = joined gone (remaining_in seat s) in
     let had = greater have (with_gone gone o) in
-    let behind = wanted_front seat before after went had known.1 in (
-      behind.0,
-      wanted_on seat s (before ++ after) gone have known.0 ∙ ap (λ (l : List ℕ). here ++ l) behind.1
-          ∙ sym (append_assoc here (wanted seat before went had) behind.0)
-          ∙ ap (λ (l : List ℕ). l ++ behind.0) (sym (wanted_on seat s before gone have known.0)),
+    let following = wanted_front seat before after went had known.1 in (
+      following.0,
+      wanted_on seat s (before ++ after) gone have known.0 ∙ ap (λ (l : List ℕ). here ++ l) following.1
+          ∙ sym (append_assoc here (wanted seat before went had) following.0)
+          ∙ ap (λ (l : List ℕ). l ++ following.0) (sym (wanted_on seat s before gone have known.0)),
     )
 
 -- the length of a want list
@@ -170,11 +170,11 @@ length-wanted seat [] gone have known le =
     sym (sum_kinds_same (λ k. (get_or gone k 0 + 0) - get_or have k 0) (λ k. 0) (λ k h. let l = le k h in omega arith) ∙ sum_of_none kinds)
 length-wanted seat (s ∷ steps) gone have known le =
     let o = needed seat s in
-    let left = left_in seat s in
-    let went = joined gone left in
+    let remaining = remaining_in seat s in
+    let went = joined gone remaining in
     let had = greater have (with_gone gone o) in
-    let less : (k : ℕ) → k < 27 → get_or left k 0 ≤ get_or (asked_or_none o) k 0 = λ k h. left_asked seat s.player s.act k h in
-    let rest = length-wanted seat steps went had known.1 (λ k h. had_step o gone have left k h (le k h) (less k h)) in
+    let less : (k : ℕ) → k < 27 → get_or remaining k 0 ≤ get_or (asked_or_none o) k 0 = λ k h. remaining_asked seat s.player s.act k h in
+    let rest = length-wanted seat steps went had known.1 (λ k h. had_step o gone have remaining k h (le k h) (less k h)) in
     let here = length-lacking (with_gone gone o) have in
     let f : ℕ → ℕ = λ k. get_or (with_gone gone o) k 0 - get_or have k 0 in
     let g : ℕ → ℕ = λ k. (get_or went k 0 + demand seat steps k) - get_or had k 0 in
@@ -182,4 +182,4 @@ length-wanted seat (s ∷ steps) gone have known le =
     ∙ ap (λ (n : ℕ). n + length (wanted seat steps went had)) here ∙ ap (λ (n : ℕ). sum_by f kinds + n) rest
     ∙ sym (sum_of_sums f g kinds)
     ∙ sum_kinds_same (λ k. f k + g k) (λ k. (get_or gone k 0 + demand seat (s ∷ steps) k) - get_or have k 0)
-    (λ k h. wanted_step o gone have left (demand seat steps k) k h (le k h) (less k h))
+    (λ k h. wanted_step o gone have remaining (demand seat steps k) k h (le k h) (less k h))

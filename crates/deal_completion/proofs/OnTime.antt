@@ -10,11 +10,11 @@ use Rattle.deal_steps.specs.declared.steps.Motion.TheVariants as motion
 use Rattle.deal_steps.specs.declared.steps.Act.{Act}
 use Rattle.deal_steps.specs.declared.steps.Step.{Step}
 use Rattle.deal_steps.specs.Piles.{kinds, joined, without}
-use Rattle.deal_steps.specs.Steps.{of_turn, is_by, left_in, needed}
+use Rattle.deal_steps.specs.Steps.{of_turn, is_by, remaining_in, needed}
 use Rattle.deal_steps.proofs.PileLaws.{get-joined, get-without, get-no_tiles, sum_kinds_same, sum_kinds_le, zero_kinds}
 use Rattle.deal_completion.specs.declared.picking.Pick.{Pick}
 use Rattle.deal_completion.specs.Completion.{want_list}
-use Rattle.deal_completion.proofs.WantLaws.{asked_or_none, left_asked}
+use Rattle.deal_completion.proofs.WantLaws.{asked_or_none, remaining_asked}
 use Rattle.deal_completion.proofs.Demand.{often, demand, IsKnownThroughout, often-wanted, length-wanted, wanted_front, known_front, sum_of_none}
 use Rattle.deal_completion.proofs.PickLaws.{Picks}
 
@@ -65,14 +65,14 @@ is_met_on_time seat s steps rack tiles on asks k h =
 -- ---- a step is made
 
 pub on_time_after : (seat : Seat) (s : Step) (steps : List Step) (rack : List ℕ) → IsOnTime seat (s ∷ steps) rack 0
-    → ((k : ℕ) → k < 27 → get_or (left_in seat s) k 0 ≤ get_or rack k 0)
-    → IsOnTime seat steps (without rack (left_in seat s)) (drawn_in seat s)
+    → ((k : ℕ) → k < 27 → get_or (remaining_in seat s) k 0 ≤ get_or rack k 0)
+    → IsOnTime seat steps (without rack (remaining_in seat s)) (drawn_in seat s)
 on_time_after seat s steps rack on there = record {
   on_time = λ before at after tiles parts asks.
       let all = on.on_time (s ∷ before) at after tiles (ap (λ (l : List Step). s ∷ l) parts) asks in
-      let less = sum_kinds_le (λ k. demand seat (before ++ at ∷ []) k - get_or (without rack (left_in seat s)) k 0)
+      let less = sum_kinds_le (λ k. demand seat (before ++ at ∷ []) k - get_or (without rack (remaining_in seat s)) k 0)
       (λ k. demand seat (s ∷ before ++ at ∷ []) k - get_or rack k 0)
-      (λ k h. let w = get-without rack (left_in seat s) k h in let t = there k h in omega arith) in
+      (λ k h. let w = get-without rack (remaining_in seat s) k h in let t = there k h in omega arith) in
       omega arith;
 }
 
@@ -126,17 +126,17 @@ on_time_drawn seat steps rack reserved bag number due q known on picks = record 
 pub record IsMoment (Asks : Step → List ℕ → Type 0) (steps : List Step) : Type 0 where
   pub before : List Step
   pub step : Step
-  pub behind : List Step
+  pub following : List Step
   pub tiles : List ℕ
-  pub parts : steps ≡ before ++ step ∷ behind
+  pub parts : steps ≡ before ++ step ∷ following
   pub asks : Asks step tiles
 
 abbrev pub moment_here : (Asks : Step → List ℕ → Type 0) (s : Step) (steps : List Step) (tiles : List ℕ) → Asks s tiles → IsMoment Asks (s ∷ steps)
-moment_here Asks s steps tiles asks = record { before = []; step = s; behind = steps; tiles = tiles; parts = refl; asks = asks }
+moment_here Asks s steps tiles asks = record { before = []; step = s; following = steps; tiles = tiles; parts = refl; asks = asks }
 
 abbrev pub moment_later : (Asks : Step → List ℕ → Type 0) (s : Step) (steps : List Step) → IsMoment Asks steps → IsMoment Asks (s ∷ steps)
 moment_later Asks s steps m =
-    record { before = s ∷ m.before; step = m.step; behind = m.behind; tiles = m.tiles; parts = ap (λ (l : List Step). s ∷ l) m.parts; asks = m.asks }
+    record { before = s ∷ m.before; step = m.step; following = m.following; tiles = m.tiles; parts = ap (λ (l : List Step). s ∷ l) m.parts; asks = m.asks }
 
 abbrev pub Needs : Seat → Step → List ℕ → Type 0
 Needs seat step tiles = needed seat step ≡ Some tiles
@@ -158,13 +158,13 @@ last_moment seat [] = inl (λ k h. refl)
 last_moment seat (s ∷ steps) = elim (last_moment seat steps) [
   | inr last ↦ inr (record {
     moment = moment_later (Needs seat) s steps last.moment;
-    asked_before = λ k h. ap (λ (n : ℕ). max (get_or (asked_or_none (needed seat s)) k 0) (get_or (left_in seat s) k 0 + n)) (last.asked_before k h);
+    asked_before = λ k h. ap (λ (n : ℕ). max (get_or (asked_or_none (needed seat s)) k 0) (get_or (remaining_in seat s) k 0 + n)) (last.asked_before k h);
   })
   | inl nothing ↦ elim (cases_Option (needed seat s)) [
     | inl none ↦ inl (λ k h.
         let e = ap (λ (o : Option (List ℕ)). get_or (asked_or_none o) k 0) none in
         let z = get-no_tiles k h in
-        let l : get_or (left_in seat s) k 0 ≤ get_or (asked_or_none (needed seat s)) k 0 = left_asked seat s.player s.act k h in
+        let l : get_or (remaining_in seat s) k 0 ≤ get_or (asked_or_none (needed seat s)) k 0 = remaining_asked seat s.player s.act k h in
         let n = nothing k h in
         omega arith)
     | inr some ↦ inr (record {
@@ -183,11 +183,11 @@ missing_comes seat steps rack due on = elim (last_moment seat steps) [
       omega arith
   | inr last ↦
       let m = last.moment in
-      let all = on.on_time m.before m.step m.behind m.tiles m.parts m.asks in
+      let all = on.on_time m.before m.step m.following m.tiles m.parts m.asks in
       let same = sum_kinds_same (λ k. demand seat steps k - get_or rack k 0) (λ k. demand seat (m.before ++ m.step ∷ []) k - get_or rack k 0)
       (λ k h. ap (λ (n : ℕ). n - get_or rack k 0) (last.asked_before k h)) in
       let come = ap (to_come seat) m.parts in
-      let both = to_come-append seat m.before (m.step ∷ m.behind) in
+      let both = to_come-append seat m.before (m.step ∷ m.following) in
       omega arith
 ]
 
@@ -220,7 +220,7 @@ room_for_pick other steps other_rack bag number due known on room =
 -- after a draw the bag still has what both want
 pub covered_drawn : (seat other : Seat) (steps : List Step) (rack other_rack bag : List ℕ) (number : ℕ) (q : Pick) → IsKnownThroughout seat steps → IsKnownThroughout other steps
     → Picks (want_list seat steps rack) (want_list other steps other_rack) bag number q
-    → IsCovered (demand seat steps) (demand other steps) (joined rack q.taken) other_rack q.left
+    → IsCovered (demand seat steps) (demand other steps) (joined rack q.taken) other_rack q.remaining
 covered_drawn seat other steps rack other_rack bag number q known other_known picks = record {
   covered = λ k h.
       let a = often_want seat steps rack k known h in
@@ -233,12 +233,12 @@ covered_drawn seat other steps rack other_rack bag number q known other_known pi
 -- and after a step
 pub covered_after : (seat other : Seat) (s : Step) (steps : List Step) (rack other_rack bag : List ℕ)
     → IsCovered (demand seat (s ∷ steps)) (demand other (s ∷ steps)) rack other_rack bag
-    → ((k : ℕ) → k < 27 → get_or (left_in seat s) k 0 ≤ get_or rack k 0)
-    → IsCovered (demand seat steps) (demand other steps) (without rack (left_in seat s)) other_rack bag
+    → ((k : ℕ) → k < 27 → get_or (remaining_in seat s) k 0 ≤ get_or rack k 0)
+    → IsCovered (demand seat steps) (demand other steps) (without rack (remaining_in seat s)) other_rack bag
 covered_after seat other s steps rack other_rack bag is there = record {
   covered = λ k h.
       let c = is.covered k h in
-      let w = get-without rack (left_in seat s) k h in
+      let w = get-without rack (remaining_in seat s) k h in
       let t = there k h in
       omega arith;
 }

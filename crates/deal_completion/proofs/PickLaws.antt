@@ -21,8 +21,8 @@ AreKinds (k ∷ list) = (k < 27) × AreKinds list
 -- what is picked and what is left of some tiles
 pub record IsOf (tiles : List ℕ) (p : Pick) : Type 0 where
   pub long : length p.taken ≡ 27
-  pub left_long : length p.left ≡ 27
-  pub whole : (k : ℕ) → k < 27 → get_or p.taken k 0 + get_or p.left k 0 ≡ get_or tiles k 0
+  pub remaining_long : length p.remaining ≡ 27
+  pub whole : (k : ℕ) → k < 27 → get_or p.taken k 0 + get_or p.remaining k 0 ≡ get_or tiles k 0
 
 -- ---- one tile
 
@@ -59,9 +59,9 @@ pub with_one_taken : (p : Pick) (j k : ℕ) → j < length p.taken → get_or (w
 unfolding with_one
 with_one_taken p j k h = one_set p.taken j k h
 
-pub with_one_left : (p : Pick) (j k : ℕ) → j < length p.left → get_or (with_one p j).left k 0 ≡ get_or p.left k 0 - tick j k
+pub with_one_remaining : (p : Pick) (j k : ℕ) → j < length p.remaining → get_or (with_one p j).remaining k 0 ≡ get_or p.remaining k 0 - tick j k
 unfolding with_one
-with_one_left p j k h = one_unset p.left j k h
+with_one_remaining p j k h = one_unset p.remaining j k h
 
 pub with_one_sum : (p : Pick) (j : ℕ) → j < length p.taken → sum (with_one p j).taken ≡ sum p.taken + 1
 unfolding with_one
@@ -72,9 +72,9 @@ with_one_long : (p : Pick) (j : ℕ) → length (with_one p j).taken ≡ length 
 unfolding with_one
 with_one_long p j = length-set p.taken j (get_or p.taken j 0 + 1)
 
-with_one_left_long : (p : Pick) (j : ℕ) → length (with_one p j).left ≡ length p.left
+with_one_remaining_long : (p : Pick) (j : ℕ) → length (with_one p j).remaining ≡ length p.remaining
 unfolding with_one
-with_one_left_long p j = length-set p.left j (get_or p.left j 0 - 1)
+with_one_remaining_long p j = length-set p.remaining j (get_or p.remaining j 0 - 1)
 
 tick_there : (xs : List ℕ) (j k : ℕ) → 0 < get_or xs j 0 → tick j k ≤ get_or xs k 0
 tick_there xs j k there = elim (cases_eq j k) [
@@ -82,17 +82,17 @@ tick_there xs j k there = elim (cases_eq j k) [
   | inr ne ↦ let t = tick_other j k ne in omega arith
 ]
 
-pub with_one_of : (tiles : List ℕ) (p : Pick) (j : ℕ) → IsOf tiles p → j < 27 → 0 < get_or p.left j 0 → IsOf tiles (with_one p j)
+pub with_one_of : (tiles : List ℕ) (p : Pick) (j : ℕ) → IsOf tiles p → j < 27 → 0 < get_or p.remaining j 0 → IsOf tiles (with_one p j)
 with_one_of tiles p j is h there =
     let long = is.long in
-    let left_long = is.left_long in
+    let remaining_long = is.remaining_long in
     record {
       long = with_one_long p j ∙ long;
-      left_long = with_one_left_long p j ∙ left_long;
+      remaining_long = with_one_remaining_long p j ∙ remaining_long;
       whole = λ k hk.
           let a = with_one_taken p j k (omega arith) in
-          let b = with_one_left p j k (omega arith) in
-          let t = tick_there p.left j k there in
+          let b = with_one_remaining p j k (omega arith) in
+          let t = tick_there p.remaining j k there in
           let w = is.whole k hk in
           omega arith;
     }
@@ -100,15 +100,15 @@ with_one_of tiles p j is h there =
 -- ---- the tiles of a list
 
 -- the first tile of a list
-first_listed : (list : List ℕ) (j number : ℕ) (p : Pick) → sum p.taken < number → 0 < get_or p.left j 0
+first_listed : (list : List ℕ) (j number : ℕ) (p : Pick) → sum p.taken < number → 0 < get_or p.remaining j 0
     → pick_listed (j ∷ list) number p ≡ pick_listed list number (with_one p j)
 first_listed list j number p few there =
-    ap (λ (b : Bool). pick_listed list number (if b && ltb 0 (get_or p.left j 0) then with_one p j else p)) (lt-ltb (sum p.taken) number few)
-    ∙ ap (λ (b : Bool). pick_listed list number (if b then with_one p j else p)) (lt-ltb 0 (get_or p.left j 0) there)
+    ap (λ (b : Bool). pick_listed list number (if b && ltb 0 (get_or p.remaining j 0) then with_one p j else p)) (lt-ltb (sum p.taken) number few)
+    ∙ ap (λ (b : Bool). pick_listed list number (if b then with_one p j else p)) (lt-ltb 0 (get_or p.remaining j 0) there)
 
 full_listed : (list : List ℕ) (j number : ℕ) (p : Pick) → number ≤ sum p.taken → pick_listed (j ∷ list) number p ≡ pick_listed list number p
 full_listed list j number p full =
-    ap (λ (b : Bool). pick_listed list number (if b && ltb 0 (get_or p.left j 0) then with_one p j else p)) (le-ltb (sum p.taken) number full)
+    ap (λ (b : Bool). pick_listed list number (if b && ltb 0 (get_or p.remaining j 0) then with_one p j else p)) (le-ltb (sum p.taken) number full)
 
 -- If all of a list is there, its first tiles are taken, as many as are requested.
 pub record Takes (list tiles : List ℕ) (number : ℕ) (p q : Pick) : Type 0 where
@@ -123,7 +123,7 @@ take_first j n m list e =
 take_none : (n : ℕ) (list : List ℕ) → n ≡ 0 → take n list ≡ []
 take_none n list e = ap (λ (i : ℕ). take i list) e
 
-pub picks_listed : (list tiles : List ℕ) (number : ℕ) (p : Pick) → AreKinds list → IsOf tiles p → ((k : ℕ) → k < 27 → often k list ≤ get_or p.left k 0)
+pub picks_listed : (list tiles : List ℕ) (number : ℕ) (p : Pick) → AreKinds list → IsOf tiles p → ((k : ℕ) → k < 27 → often k list ≤ get_or p.remaining k 0)
     → Takes list tiles number p (pick_listed list number p)
 picks_listed [] tiles number p are is there = record {
   is_of = is;
@@ -137,16 +137,16 @@ picks_listed [] tiles number p are is there = record {
 picks_listed (j ∷ list) tiles number p are is there = elim (cases_lt (sum p.taken) number) [
   | inl few ↦
       let long = is.long in
-      let left_long = is.left_long in
+      let remaining_long = is.remaining_long in
       let hj = are.0 in
       let lots = there j hj in
       let one = tick_same j j refl in
       let first = often-cons j j list in
-      let some : 0 < get_or p.left j 0 = omega arith in
+      let some : 0 < get_or p.remaining j 0 = omega arith in
       let p1 = with_one p j in
       let of1 = with_one_of tiles p j is hj some in
       let rest = picks_listed list tiles number p1 are.1 of1
-      (λ k h. (let o = often-cons k j list in let t = there k h in let l = with_one_left p j k (omega arith) in omega arith)) in
+      (λ k h. (let o = often-cons k j list in let t = there k h in let l = with_one_remaining p j k (omega arith) in omega arith)) in
       let sums = with_one_sum p j (omega arith) in
       let begins = take_first j (number - sum p.taken) (number - sum p1.taken) list (omega arith) in
       let is_rest = first_listed list j number p few some in
@@ -164,13 +164,13 @@ picks_listed (j ∷ list) tiles number p are is there = elim (cases_lt (sum p.ta
       let rest = picks_listed list tiles number p are.1 is
       (λ k h. (let o = often-cons k j list in let t = there k h in omega arith)) in
       let is_rest = full_listed list j number p full in
-      let zero_left : number - sum p.taken ≡ 0 = omega arith in
+      let zero_remaining : number - sum p.taken ≡ 0 = omega arith in
       subst (λ (q : Pick). Takes (j ∷ list) tiles number p q) (sym is_rest) (record {
         is_of = rest.is_of;
         took = λ k h.
             (let took = rest.took k h in
-            let a = ap (often k) (take_none (number - sum p.taken) list zero_left) in
-            let b = ap (often k) (take_none (number - sum p.taken) (j ∷ list) zero_left) in
+            let a = ap (often k) (take_none (number - sum p.taken) list zero_remaining) in
+            let b = ap (often k) (take_none (number - sum p.taken) (j ∷ list) zero_remaining) in
             omega arith);
         count = let c = rest.count in omega arith;
       })
@@ -183,15 +183,15 @@ pub record Fills (tiles reserved : List ℕ) (number : ℕ) (p q : Pick) : Type 
   pub is_of : IsOf tiles q
   pub more : sum q.taken ≡ sum p.taken + number
   pub kept : (k : ℕ) → k < 27 → get_or p.taken k 0 ≤ get_or q.taken k 0
-  pub spared : (k : ℕ) → k < 27 → often k reserved ≤ get_or q.left k 0
+  pub spared : (k : ℕ) → k < 27 → often k reserved ≤ get_or q.remaining k 0
 
-pub sum_left : (tiles : List ℕ) (p : Pick) → IsOf tiles p → length tiles ≡ 27 → sum p.taken + sum p.left ≡ sum tiles
-sum_left tiles p is long =
+pub sum_remaining : (tiles : List ℕ) (p : Pick) → IsOf tiles p → length tiles ≡ 27 → sum p.taken + sum p.remaining ≡ sum tiles
+sum_remaining tiles p is long =
     let a = sum_is p.taken is.long in
-    let b = sum_is p.left is.left_long in
+    let b = sum_is p.remaining is.remaining_long in
     let c = sum_is tiles long in
-    let d = sum_of_sums (λ k. get_or p.taken k 0) (λ k. get_or p.left k 0) kinds in
-    let e = sum_kinds_same (λ k. get_or p.taken k 0 + get_or p.left k 0) (λ k. get_or tiles k 0) is.whole in
+    let d = sum_of_sums (λ k. get_or p.taken k 0) (λ k. get_or p.remaining k 0) kinds in
+    let e = sum_kinds_same (λ k. get_or p.taken k 0 + get_or p.remaining k 0) (λ k. get_or tiles k 0) is.whole in
     omega arith
 
 -- a find over a range: what it gives passes, and if it gives nothing, all fail
@@ -216,28 +216,28 @@ find_range test a (suc n) = elim (cases_Bool (test a)) [
       ]
 ]
 
-abbrev spare_test : (reserved left : List ℕ) → ℕ → Bool
-spare_test reserved left k = ltb (often k reserved) (get_or left k 0)
+abbrev spare_test : (reserved remaining : List ℕ) → ℕ → Bool
+spare_test reserved remaining k = ltb (often k reserved) (get_or remaining k 0)
 
 -- if there are more tiles than are reserved, one is spare
-some_spare : (reserved left : List ℕ) → length left ≡ 27 → sum_by (λ k. often k reserved) kinds < sum left
-    → (k : ℕ) × (next_kind reserved left ≡ Some k) × (k < 27) × (often k reserved < get_or left k 0)
+some_spare : (reserved remaining : List ℕ) → length remaining ≡ 27 → sum_by (λ k. often k reserved) kinds < sum remaining
+    → (k : ℕ) × (next_kind reserved remaining ≡ Some k) × (k < 27) × (often k reserved < get_or remaining k 0)
 unfolding kinds
-some_spare reserved left long more = elim (find_range (spare_test reserved left) 0 27) [
+some_spare reserved remaining long more = elim (find_range (spare_test reserved remaining) 0 27) [
   | inl none ↦
-      let le = sum_kinds_le (λ k. get_or left k 0) (λ k. often k reserved)
-      (λ k h. ltb-false (often k reserved) (get_or left k 0) (none.1 k (omega arith) h)) in
-      let s = sum_is left long in
+      let le = sum_kinds_le (λ k. get_or remaining k 0) (λ k. often k reserved)
+      (λ k h. ltb-false (often k reserved) (get_or remaining k 0) (none.1 k (omega arith) h)) in
+      let s = sum_is remaining long in
       absurd (omega arith)
-  | inr some ↦ (some.0, ap (λ (o : Option ℕ). option_or o (find (λ k. ltb 0 (get_or left k 0)) kinds)) some.1, some.2, ltb-true (often some.0 reserved) (get_or left some.0 0) some.3)
+  | inr some ↦ (some.0, ap (λ (o : Option ℕ). option_or o (find (λ k. ltb 0 (get_or remaining k 0)) kinds)) some.1, some.2, ltb-true (often some.0 reserved) (get_or remaining some.0 0) some.3)
 ]
 
-next_more : (reserved : List ℕ) (number k : ℕ) (p : Pick) → next_kind reserved p.left ≡ Some k
+next_more : (reserved : List ℕ) (number k : ℕ) (p : Pick) → next_kind reserved p.remaining ≡ Some k
     → pick_more reserved (suc number) p ≡ pick_more reserved number (with_one p k)
 next_more reserved number k p e = ap (λ (o : Option ℕ). pick_more reserved number (with_next p o)) e
 
-pub fills : (tiles reserved : List ℕ) (number : ℕ) (p : Pick) → length tiles ≡ 27 → IsOf tiles p → ((k : ℕ) → k < 27 → often k reserved ≤ get_or p.left k 0)
-    → sum_by (λ k. often k reserved) kinds + number ≤ sum p.left → Fills tiles reserved number p (pick_more reserved number p)
+pub fills : (tiles reserved : List ℕ) (number : ℕ) (p : Pick) → length tiles ≡ 27 → IsOf tiles p → ((k : ℕ) → k < 27 → often k reserved ≤ get_or p.remaining k 0)
+    → sum_by (λ k. often k reserved) kinds + number ≤ sum p.remaining → Fills tiles reserved number p (pick_more reserved number p)
 fills tiles reserved zero p long is spared room = record {
   is_of = is;
   more = omega arith;
@@ -246,20 +246,20 @@ fills tiles reserved zero p long is spared room = record {
 }
 fills tiles reserved (suc number) p long is spared room =
     let taken_long = is.long in
-    let left_long = is.left_long in
-    let next = some_spare reserved p.left left_long (omega arith) in
+    let remaining_long = is.remaining_long in
+    let next = some_spare reserved p.remaining remaining_long (omega arith) in
     let j = next.0 in
     let below : j < 27 = next.2 in
-    let spare : often j reserved < get_or p.left j 0 = next.3 in
+    let spare : often j reserved < get_or p.remaining j 0 = next.3 in
     let of1 = with_one_of tiles p j is below (omega arith) in
     let sums = with_one_sum p j (omega arith) in
-    let before = sum_left tiles p is long in
-    let after = sum_left tiles (with_one p j) of1 long in
+    let before = sum_remaining tiles p is long in
+    let after = sum_remaining tiles (with_one p j) of1 long in
     let rest = fills tiles reserved number (with_one p j) long of1
     (λ k h. elim (cases_eq j k) [
-      | inl e ↦ subst (λ (i : ℕ). often i reserved ≤ get_or (with_one p j).left i 0) e
-          (let l = with_one_left p j j (omega arith) in let t = tick_same j j refl in omega arith)
-      | inr ne ↦ let l = with_one_left p j k (omega arith) in let t = tick_other j k ne in let s = spared k h in omega arith
+      | inl e ↦ subst (λ (i : ℕ). often i reserved ≤ get_or (with_one p j).remaining i 0) e
+          (let l = with_one_remaining p j j (omega arith) in let t = tick_same j j refl in omega arith)
+      | inr ne ↦ let l = with_one_remaining p j k (omega arith) in let t = tick_other j k ne in let s = spared k h in omega arith
     ])
     (omega arith) in
     subst (λ (q : Pick). Fills tiles reserved (suc number) p q) (sym (next_more reserved number j p next.1)) (record {
@@ -300,7 +300,7 @@ kinds_most (y ∷ ys) =
 pub record Picks (list reserved tiles : List ℕ) (number : ℕ) (q : Pick) : Type 0 where
   pub is_of : IsOf tiles q
   pub all : sum q.taken ≡ number
-  pub spare : (k : ℕ) → k < 27 → (often k list - get_or q.taken k 0) + often k reserved ≤ get_or q.left k 0
+  pub spare : (k : ℕ) → k < 27 → (often k list - get_or q.taken k 0) + often k reserved ≤ get_or q.remaining k 0
   pub front : (xs rest : List ℕ) → list ≡ xs ++ rest → sum_by (λ k. often k xs - get_or q.taken k 0) kinds ≤ length xs - number
 
 -- a part of a list has no more of a kind than all of it
@@ -324,12 +324,12 @@ often_front k n xs rest = elim (cases_lt n (length xs)) [
         omega arith
 
 abbrev unpicked : List ℕ → Pick
-unpicked tiles = record { taken = no_tiles; left = tiles }
+unpicked tiles = record { taken = no_tiles; remaining = tiles }
 
 unpicked_of : (tiles : List ℕ) → length tiles ≡ 27 → IsOf tiles (unpicked tiles)
 unpicked_of tiles long = record {
   long = length-no_tiles;
-  left_long = long;
+  remaining_long = long;
   whole = λ k h. let z = get-no_tiles k h in omega arith;
 }
 
@@ -346,10 +346,10 @@ picks list reserved tiles number are long there room =
     let number_is : number - sum no_tiles ≡ number = omega arith in
     let took : (k : ℕ) → k < 27 → get_or p.taken k 0 ≡ often k (take number list) =
     λ k h. let t = takes.took k h in let z = get-no_tiles k h in let e = ap (λ (n : ℕ). often k (take n list)) number_is in omega arith in
-    let left : (k : ℕ) → k < 27 → often k reserved ≤ get_or p.left k 0 =
+    let remaining : (k : ℕ) → k < 27 → often k reserved ≤ get_or p.remaining k 0 =
     λ k h. let t = there k h in let w = takes.is_of.whole k h in let m = took k h in let l = often_take k number list in omega arith in
-    let sums = sum_left tiles p takes.is_of long in
-    let full = fills tiles reserved (number - sum p.taken) p long takes.is_of left (omega arith) in
+    let sums = sum_remaining tiles p takes.is_of long in
+    let full = fills tiles reserved (number - sum p.taken) p long takes.is_of remaining (omega arith) in
     let q = pick_more reserved (number - sum p.taken) p in
     let more = full.more in
     record {
@@ -389,19 +389,19 @@ picks list reserved tiles number are long there room =
 
 -- ---- nothing is lost
 
-below_left : (xs : List ℕ) (k : ℕ) → length xs ≡ 27 → 0 < get_or xs k 0 → k < 27
-below_left xs k long there = elim (cases_lt k 27) [
+below_remaining : (xs : List ℕ) (k : ℕ) → length xs ≡ 27 → 0 < get_or xs k 0 → k < 27
+below_remaining xs k long there = elim (cases_lt k 27) [
   | inl lt ↦ lt
   | inr ge ↦ let e = get_or_past xs k 0 (omega arith) in absurd (omega arith)
 ]
 
 listed_of : (list tiles : List ℕ) (number : ℕ) (p : Pick) → IsOf tiles p → IsOf tiles (pick_listed list number p)
 listed_of [] tiles number p is = is
-listed_of (j ∷ list) tiles number p is = elim (cases_Bool (ltb (sum p.taken) number && ltb 0 (get_or p.left j 0))) [
+listed_of (j ∷ list) tiles number p is = elim (cases_Bool (ltb (sum p.taken) number && ltb 0 (get_or p.remaining j 0))) [
   | inl yes_it ↦
-      let parts = and_parts (ltb (sum p.taken) number) (ltb 0 (get_or p.left j 0)) yes_it in
-      let there = ltb-true 0 (get_or p.left j 0) parts.1 in
-      let below = below_left p.left j is.left_long there in
+      let parts = and_parts (ltb (sum p.taken) number) (ltb 0 (get_or p.remaining j 0)) yes_it in
+      let there = ltb-true 0 (get_or p.remaining j 0) parts.1 in
+      let below = below_remaining p.remaining j is.remaining_long there in
       subst (λ (b : Bool). IsOf tiles (pick_listed list number (if b then with_one p j else p))) (sym yes_it)
       (listed_of list tiles number (with_one p j) (with_one_of tiles p j is below there))
   | inr no_it ↦
@@ -409,22 +409,22 @@ listed_of (j ∷ list) tiles number p is = elim (cases_Bool (ltb (sum p.taken) n
       (listed_of list tiles number p is)
 ]
 
-next_of : (tiles reserved : List ℕ) (p : Pick) → IsOf tiles p → IsOf tiles (with_next p (next_kind reserved p.left))
+next_of : (tiles reserved : List ℕ) (p : Pick) → IsOf tiles p → IsOf tiles (with_next p (next_kind reserved p.remaining))
 unfolding kinds
-next_of tiles reserved p is = elim (find_range (spare_test reserved p.left) 0 27) [
-  | inl none ↦ subst (λ (o : Option ℕ). IsOf tiles (with_next p (option_or o (find (λ k. ltb 0 (get_or p.left k 0)) kinds)))) (sym none.0)
-      (elim (find_range (λ k. ltb 0 (get_or p.left k 0)) 0 27) [
+next_of tiles reserved p is = elim (find_range (spare_test reserved p.remaining) 0 27) [
+  | inl none ↦ subst (λ (o : Option ℕ). IsOf tiles (with_next p (option_or o (find (λ k. ltb 0 (get_or p.remaining k 0)) kinds)))) (sym none.0)
+      (elim (find_range (λ k. ltb 0 (get_or p.remaining k 0)) 0 27) [
         | inl empty ↦ subst (λ (o : Option ℕ). IsOf tiles (with_next p o)) (sym empty.0) is
         | inr some ↦ subst (λ (o : Option ℕ). IsOf tiles (with_next p o)) (sym some.1)
-            (with_one_of tiles p some.0 is some.2 (ltb-true 0 (get_or p.left some.0 0) some.3))
+            (with_one_of tiles p some.0 is some.2 (ltb-true 0 (get_or p.remaining some.0 0) some.3))
       ])
-  | inr some ↦ subst (λ (o : Option ℕ). IsOf tiles (with_next p (option_or o (find (λ k. ltb 0 (get_or p.left k 0)) kinds)))) (sym some.1)
-      (with_one_of tiles p some.0 is some.2 (let lt = ltb-true (often some.0 reserved) (get_or p.left some.0 0) some.3 in omega arith))
+  | inr some ↦ subst (λ (o : Option ℕ). IsOf tiles (with_next p (option_or o (find (λ k. ltb 0 (get_or p.remaining k 0)) kinds)))) (sym some.1)
+      (with_one_of tiles p some.0 is some.2 (let lt = ltb-true (often some.0 reserved) (get_or p.remaining some.0 0) some.3 in omega arith))
 ]
 
 more_of : (tiles reserved : List ℕ) (number : ℕ) (p : Pick) → IsOf tiles p → IsOf tiles (pick_more reserved number p)
 more_of tiles reserved zero p is = is
-more_of tiles reserved (suc number) p is = more_of tiles reserved number (with_next p (next_kind reserved p.left)) (next_of tiles reserved p is)
+more_of tiles reserved (suc number) p is = more_of tiles reserved number (with_next p (next_kind reserved p.remaining)) (next_of tiles reserved p is)
 
 pub pick_of : (list reserved tiles : List ℕ) (number : ℕ) → length tiles ≡ 27 → IsOf tiles (pick list reserved number tiles)
 unfolding pick

@@ -90,20 +90,20 @@ below_past f g k within past = find_past (λ j. ltb (f j) (g j)) k within (le-lt
 pub sum_more : (tiles : List ℕ) (kind : ℕ) → kind < length tiles → sum (set tiles kind (get_or tiles kind 0 + 1)) ≡ sum tiles + 1
 sum_more tiles kind below = let e = sum_by-set (λ (x : ℕ). x) tiles kind (get_or tiles kind 0 + 1) 0 below in omega arith
 
-pub one_room : (p : Pick) (j : ℕ) → j < 27 → length p.taken ≡ 27 → length p.left ≡ 27 → 0 < get_or p.left j 0 → HasRoomIn p → HasRoomIn (with_one p j)
+pub one_room : (p : Pick) (j : ℕ) → j < 27 → length p.taken ≡ 27 → length p.remaining ≡ 27 → 0 < get_or p.remaining j 0 → HasRoomIn p → HasRoomIn (with_one p j)
 unfolding with_one
-one_room p j below long left_long there room k k_below =
+one_room p j below long remaining_long there room k k_below =
     ⊎_elim
     (λ (e : j ≡ k).
     let one = get_or-set_same p.taken j (get_or p.taken j 0 + 1) 0 (omega arith) in
-    let two = get_or-set_same p.left j (get_or p.left j 0 - 1) 0 (omega arith) in
+    let two = get_or-set_same p.remaining j (get_or p.remaining j 0 - 1) 0 (omega arith) in
     let taken : get_or (with_one p j).taken k 0 ≡ get_or p.taken j 0 + 1 = ap (λ (i : ℕ). get_or (with_one p j).taken i 0) (sym e) ∙ one in
-    let left : get_or (with_one p j).left k 0 ≡ get_or p.left j 0 - 1 = ap (λ (i : ℕ). get_or (with_one p j).left i 0) (sym e) ∙ two in
+    let remaining : get_or (with_one p j).remaining k 0 ≡ get_or p.remaining j 0 - 1 = ap (λ (i : ℕ). get_or (with_one p j).remaining i 0) (sym e) ∙ two in
     let before = room j below in
     omega arith)
     (λ (ne : j ≡ k → ⊥).
     let taken : get_or (with_one p j).taken k 0 ≡ get_or p.taken k 0 = get_or-set_other p.taken j k (get_or p.taken j 0 + 1) 0 (λ e. ne (sym e)) in
-    let left : get_or (with_one p j).left k 0 ≡ get_or p.left k 0 = get_or-set_other p.left j k (get_or p.left j 0 - 1) 0 (λ e. ne (sym e)) in
+    let remaining : get_or (with_one p j).remaining k 0 ≡ get_or p.remaining k 0 = get_or-set_other p.remaining j k (get_or p.remaining j 0 - 1) 0 (λ e. ne (sym e)) in
     let before = room k k_below in
     omega arith)
     (cases_eq j k)
@@ -117,22 +117,22 @@ find_same p q a (suc n) h =
     let later = find_same p q (a + 1) n (λ k low high. h k (omega arith) (omega arith)) in
     ap (λ (b : Bool). cond b (Some a) (find p (range_with_len (a + 1) n))) here ∙ ap (λ (o : Option ℕ). cond (q a) (Some a) o) later
 
-spare_is_next : (reserved left : List ℕ) → next_spare (times_of reserved) left ≡ next_kind reserved left
+spare_is_next : (reserved remaining : List ℕ) → next_spare (times_of reserved) remaining ≡ next_kind reserved remaining
 unfolding times_of kinds
-spare_is_next reserved left =
-    ap (λ (o : Option ℕ). option_or o (find (λ k. ltb 0 (get_or left k 0)) kinds))
-    (find_same (λ k. ltb (get_or (times_of reserved) k 0) (get_or left k 0)) (λ k. ltb (count_by (λ j. j == k) reserved) (get_or left k 0)) 0 27
-    (λ k low high. ap (λ (n : ℕ). ltb n (get_or left k 0)) (get-table (λ i. count_by (λ j. j == i) reserved) k (omega arith))))
+spare_is_next reserved remaining =
+    ap (λ (o : Option ℕ). option_or o (find (λ k. ltb 0 (get_or remaining k 0)) kinds))
+    (find_same (λ k. ltb (get_or (times_of reserved) k 0) (get_or remaining k 0)) (λ k. ltb (count_by (λ j. j == k) reserved) (get_or remaining k 0)) 0 27
+    (λ k low high. ap (λ (n : ℕ). ltb n (get_or remaining k 0)) (get-table (λ i. count_by (λ j. j == i) reserved) k (omega arith))))
 
 pub spare_is_more : (reserved : List ℕ) (more : ℕ) (p : Pick) → pick_spare (times_of reserved) more p ≡ pick_more reserved more p
 spare_is_more reserved zero p = refl
 spare_is_more reserved (suc more) p =
-    ap (λ (o : Option ℕ). pick_spare (times_of reserved) more (with_next p o)) (spare_is_next reserved p.left)
-    ∙ spare_is_more reserved more (with_next p (next_kind reserved p.left))
+    ap (λ (o : Option ℕ). pick_spare (times_of reserved) more (with_next p o)) (spare_is_next reserved p.remaining)
+    ∙ spare_is_more reserved more (with_next p (next_kind reserved p.remaining))
 
 -- further tiles, one by one
 pub spare_more : (times : List ℕ) (more i : ℕ) (p q : Pick) → i < more → pick_spare times (more - i) p ≡ q
-    → pick_spare times (more - (i + 1)) (with_next p (next_spare times p.left)) ≡ q
+    → pick_spare times (more - (i + 1)) (with_next p (next_spare times p.remaining)) ≡ q
 spare_more times more i p q below e =
     let next : more - i ≡ suc (more - (i + 1)) = omega arith in
     sym (ap (λ (n : ℕ). pick_spare times n p) next) ∙ e
@@ -153,32 +153,32 @@ pub listed_enough : (list : List ℕ) (number : ℕ) (p : Pick) → number ≤ s
 listed_enough [] number p enough = refl
 listed_enough (k ∷ list) number p enough =
     let no_more : ltb (sum p.taken) number ≡ false = le-ltb (sum p.taken) number enough in
-    ap (λ (b : Bool). pick_listed list number (if b && ltb 0 (get_or p.left k 0) then with_one p k else p)) no_more ∙ listed_enough list number p enough
+    ap (λ (b : Bool). pick_listed list number (if b && ltb 0 (get_or p.remaining k 0) then with_one p k else p)) no_more ∙ listed_enough list number p enough
 
 listed_step : (list : List ℕ) (i kind number : ℕ) (p : Pick) → i < length list → get_or list i 0 ≡ kind
     → pick_listed (drop i list) number p
-    ≡ pick_listed (drop (i + 1) list) number (if ltb (sum p.taken) number && ltb 0 (get_or p.left kind 0) then with_one p kind else p)
+    ≡ pick_listed (drop (i + 1) list) number (if ltb (sum p.taken) number && ltb 0 (get_or p.remaining kind 0) then with_one p kind else p)
 listed_step list i kind number p within here =
     ap (λ (xs : List ℕ). pick_listed xs number p) (drop_more list i 0 within ∙ ap (λ (k : ℕ). k ∷ drop (i + 1) list) here)
 
 -- a tile of the list is taken
-pub listed_take : (list : List ℕ) (i kind number : ℕ) (p q : Pick) → i < length list → get_or list i 0 ≡ kind → sum p.taken < number → 0 < get_or p.left kind 0
+pub listed_take : (list : List ℕ) (i kind number : ℕ) (p q : Pick) → i < length list → get_or list i 0 ≡ kind → sum p.taken < number → 0 < get_or p.remaining kind 0
     → pick_listed (drop i list) number p ≡ q → pick_listed (drop (i + 1) list) number (with_one p kind) ≡ q
 listed_take list i kind number p q within here wanting there e =
     let yes_more : ltb (sum p.taken) number ≡ true = lt-ltb (sum p.taken) number wanting in
-    let yes_left : ltb 0 (get_or p.left kind 0) ≡ true = lt-ltb 0 (get_or p.left kind 0) there in
+    let yes_remaining : ltb 0 (get_or p.remaining kind 0) ≡ true = lt-ltb 0 (get_or p.remaining kind 0) there in
     sym (listed_step list i kind number p within here
-    ∙ ap (λ (b : Bool). pick_listed (drop (i + 1) list) number (if b && ltb 0 (get_or p.left kind 0) then with_one p kind else p)) yes_more
-    ∙ ap (λ (b : Bool). pick_listed (drop (i + 1) list) number (if b then with_one p kind else p)) yes_left)
+    ∙ ap (λ (b : Bool). pick_listed (drop (i + 1) list) number (if b && ltb 0 (get_or p.remaining kind 0) then with_one p kind else p)) yes_more
+    ∙ ap (λ (b : Bool). pick_listed (drop (i + 1) list) number (if b then with_one p kind else p)) yes_remaining)
     ∙ e
 
 -- or it is not there
-pub listed_skip : (list : List ℕ) (i kind number : ℕ) (p q : Pick) → i < length list → get_or list i 0 ≡ kind → get_or p.left kind 0 ≡ 0
+pub listed_skip : (list : List ℕ) (i kind number : ℕ) (p q : Pick) → i < length list → get_or list i 0 ≡ kind → get_or p.remaining kind 0 ≡ 0
     → pick_listed (drop i list) number p ≡ q → pick_listed (drop (i + 1) list) number p ≡ q
 listed_skip list i kind number p q within here none e =
-    let no_left : ltb 0 (get_or p.left kind 0) ≡ false = le-ltb 0 (get_or p.left kind 0) (omega arith) in
-    let no_take : (ltb (sum p.taken) number && ltb 0 (get_or p.left kind 0)) ≡ false =
-    ap (λ (b : Bool). ltb (sum p.taken) number && b) no_left ∙ and_false (ltb (sum p.taken) number) in
+    let no_remaining : ltb 0 (get_or p.remaining kind 0) ≡ false = le-ltb 0 (get_or p.remaining kind 0) (omega arith) in
+    let no_take : (ltb (sum p.taken) number && ltb 0 (get_or p.remaining kind 0)) ≡ false =
+    ap (λ (b : Bool). ltb (sum p.taken) number && b) no_remaining ∙ and_false (ltb (sum p.taken) number) in
     sym (listed_step list i kind number p within here
     ∙ ap (λ (b : Bool). pick_listed (drop (i + 1) list) number (if b then with_one p kind else p)) no_take)
     ∙ e

@@ -17,7 +17,7 @@ use Rattle.deal_steps.specs.declared.steps.Step.{Step}
 use Rattle.deal_steps.specs.declared.deals.Racks.{Racks}
 use Rattle.deal_steps.specs.declared.deals.Held.{Held}
 use Rattle.deal_steps.specs.Piles.{kinds, joined, without, greater}
-use Rattle.deal_steps.specs.Steps.{used_by, left_by, of_act, left_in, needed, needed_of, size_of, swaps_by, swaps, opener}
+use Rattle.deal_steps.specs.Steps.{used_by, remaining_by, of_act, remaining_in, needed, needed_of, size_of, swaps_by, swaps, opener}
 use Rattle.deal_steps.specs.Fitting.{rack_of, in_bag, AddsUp, IsThrownBy, HasTurn, AllowsAct, FitsAt, ActsTo, Follows, FollowsTo, Fits}
 use Rattle.deal_steps.specs.Bounds.{gone, first_bound}
 use Rattle.deal_steps.specs.Runs.{Course, none_waiting, size_in, MayAct, turn_course, act_course, IsOnCourse, IsRunFrom, first_course, IsRun, HasKindsBy, HasKinds, HaveKinds}
@@ -283,7 +283,7 @@ plain_deal rules c (s ∷ rest) h long run plain are whole ready =
     let next = acted player what (throws player what rest h.racks) rest h in
     let next_ready = ready_by rules player what c s rest h refl refl ready whole on.may are.0 plain.0 plain.1 met (omega arith) in
     let next_whole = acted_whole rules player what c h rest whole on.may met in
-    let behind = plain_deal rules (act_course c player what) rest next long run.1 plain.1 are.1 next_whole next_ready in
+    let following = plain_deal rules (act_course c player what) rest next long run.1 plain.1 are.1 next_whole next_ready in
     let held = held_at s rest h.racks in
     let follows : Follows rules s held next.racks = record {
       acts = acts_by player what rules c (in_bag rules s h.racks) rest h whole plain.0 met (bag_is rules c s h on whole) on.may are.0
@@ -295,24 +295,24 @@ plain_deal rules c (s ∷ rest) h long run plain are whole ready =
       allows = allowed_by player what rules c rest h whole are.0 plain.0 met;
     } in
     record {
-      deal = held ∷ behind.deal;
-      is = dealt_on s rest h behind.deal met behind.is;
-      fits = (fits_at, follows_to rules s held behind.deal next.racks behind.begins follows, behind.fits);
+      deal = held ∷ following.deal;
+      is = dealt_on s rest h following.deal met following.is;
+      fits = (fits_at, follows_to rules s held following.deal next.racks following.begins follows, following.fits);
       begins = refl;
     }
 
 -- ---- the sizes of the racks
 
-left_long : (b : Bool) (what : Act) → HasKinds what → length (if b then of_act left_by what else no_tiles) ≡ 27
-left_long false what are = length-no_tiles
-left_long true (act.Turns shown motion.Keeps) are = length-no_tiles
-left_long true (act.Turns shown (motion.Lays used drawn)) are = are.1
-left_long true (act.Turns shown (motion.Tries used)) are = length-no_tiles
-left_long true (act.Turns shown (motion.Throws tiles)) are = are.1
-left_long true (act.Turns shown (motion.ThrowsUnknown n)) are = length-no_tiles
-left_long true (act.TakesBack used) are = length-no_tiles
-left_long true (act.Ends holder tiles) are = length-no_tiles
-left_long true act.Rests are = length-no_tiles
+remaining_long : (b : Bool) (what : Act) → HasKinds what → length (if b then of_act remaining_by what else no_tiles) ≡ 27
+remaining_long false what are = length-no_tiles
+remaining_long true (act.Turns shown motion.Keeps) are = length-no_tiles
+remaining_long true (act.Turns shown (motion.Lays used drawn)) are = are.1
+remaining_long true (act.Turns shown (motion.Tries used)) are = length-no_tiles
+remaining_long true (act.Turns shown (motion.Throws tiles)) are = are.1
+remaining_long true (act.Turns shown (motion.ThrowsUnknown n)) are = length-no_tiles
+remaining_long true (act.TakesBack used) are = length-no_tiles
+remaining_long true (act.Ends holder tiles) are = length-no_tiles
+remaining_long true act.Rests are = length-no_tiles
 
 sum_either : (b : Bool) → sum (if b then no_tiles else no_tiles) ≡ 0
 sum_either b = ap sum (either_same b no_tiles) ∙ sum-no_tiles
@@ -323,7 +323,7 @@ all_of c seat = size_in c seat + sum (rack_of c.waiting seat)
 
 -- What leaves a rack plus what is then there is what was there plus what is drawn.
 step_sized : (seat player : Seat) (what : Act) (c : Course) → MayAct c player what → swaps what ≡ false
-    → sum (if same_seat player seat then of_act left_by what else no_tiles) + all_of (act_course c player what) seat
+    → sum (if same_seat player seat then of_act remaining_by what else no_tiles) + all_of (act_course c player what) seat
     ≡ all_of c seat + (if same_seat player seat then drawn_at what else 0)
 step_sized seat player (act.Turns shown motion.Keeps) c may plain =
     let a = sum_either (same_seat player seat) in let b = either_same {A = ℕ} (same_seat player seat) 0 in omega arith
@@ -371,14 +371,14 @@ sized_from seat c [] s after past tiles came run plain are long sized asks =
     omega arith
 sized_from seat c (x ∷ before) s after past tiles came run plain are long sized asks =
     let known = known_if_plain seat (x ∷ before ++ s ∷ after) plain in
-    let left = left_in seat x in
-    let left_is_long : length left ≡ 27 = left_long (same_seat x.player seat) x.act are.0 in
-    let gone_is : gone seat (x ∷ past) ≡ joined (gone seat past) left =
-    ap (λ (b : Bool). if b then no_tiles else joined (gone seat past) left) known.0 in
-    let sums = ap sum gone_is ∙ sum-joined (gone seat past) left long left_is_long in
+    let remaining = remaining_in seat x in
+    let remaining_is_long : length remaining ≡ 27 = remaining_long (same_seat x.player seat) x.act are.0 in
+    let gone_is : gone seat (x ∷ past) ≡ joined (gone seat past) remaining =
+    ap (λ (b : Bool). if b then no_tiles else joined (gone seat past) remaining) known.0 in
+    let sums = ap sum gone_is ∙ sum-joined (gone seat past) remaining long remaining_is_long in
     let step = step_sized seat x.player x.act c run.0.may plain.0 in
     let rest = sized_from seat (act_course c x.player x.act) before s after (x ∷ past) tiles (came + drawn_in seat x) run.1 plain.1 are.1
-    (ap length gone_is ∙ length-joined (gone seat past) left) (omega arith) asks in
+    (ap length gone_is ∙ length-joined (gone seat past) remaining) (omega arith) asks in
     omega arith
 
 starts_sized : (rules : Rules) (seat : Seat) → sum (gone seat []) + all_of (first_course rules) seat ≡ 7
@@ -404,7 +404,7 @@ first_pick rules seat other steps = pick (want_list seat steps no_tiles) (want_l
 
 abbrev second_pick : Rules → (seat other : Seat) → List Step → Pick
 second_pick rules seat other steps =
-    pick (want_list other steps no_tiles) (want_list seat steps (joined no_tiles (first_pick rules seat other steps).taken)) 7 (first_pick rules seat other steps).left
+    pick (want_list other steps no_tiles) (want_list seat steps (joined no_tiles (first_pick rules seat other steps).taken)) 7 (first_pick rules seat other steps).remaining
 
 -- Both players have seven tiles, everything comes in time, and the bag has what both want.
 record StartsWell (rules : Rules) (seat other : Seat) (steps : List Step) (own others bag : List ℕ) : Type 0 where
@@ -419,16 +419,16 @@ starts_well : (rules : Rules) (seat other : Seat) (steps : List Step) → length
     → IsCovered (demand seat steps) (demand other steps) no_tiles no_tiles rules.counts
     → to_come seat steps + to_come other steps + 14 ≤ sum rules.counts
     → StartsWell rules seat other steps (joined no_tiles (first_pick rules seat other steps).taken) (joined no_tiles (second_pick rules seat other steps).taken)
-    (second_pick rules seat other steps).left
+    (second_pick rules seat other steps).remaining
 starts_well rules seat other steps long plain on other_on covered room =
     let one = first_pick rules seat other steps in
     let two = second_pick rules seat other steps in
     let own = joined no_tiles one.taken in
     let first = draws_well seat other steps no_tiles no_tiles rules.counts 7 7 plain long on other_on covered (omega arith) in
-    let left = first.left in
-    let second = draws_well other seat steps no_tiles own one.left 7 0 plain first.is_of.left_long other_on first.on
-    (covered_swapped (demand seat steps) (demand other steps) own no_tiles one.left first.covered) (omega arith) in
-    let second_left = second.left in
+    let remaining = first.remaining in
+    let second = draws_well other seat steps no_tiles own one.remaining 7 0 plain first.is_of.remaining_long other_on first.on
+    (covered_swapped (demand seat steps) (demand other steps) own no_tiles one.remaining first.covered) (omega arith) in
+    let second_remaining = second.remaining in
     let all = first.all in
     let second_all = second.all in
     let none = sum-no_tiles in
@@ -440,7 +440,7 @@ starts_well rules seat other steps long plain on other_on covered room =
       bag_size = omega arith;
       own_on = first.on;
       others_on = second.on;
-      covered = covered_swapped (demand other steps) (demand seat steps) (joined no_tiles two.taken) own two.left second.covered;
+      covered = covered_swapped (demand other steps) (demand seat steps) (joined no_tiles two.taken) own two.remaining second.covered;
     }
 
 -- together with no tiles that wait

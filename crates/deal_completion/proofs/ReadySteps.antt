@@ -16,7 +16,7 @@ use Rattle.deal_steps.specs.declared.steps.Act.TheVariants as act
 use Rattle.deal_steps.specs.declared.steps.Step.{Step}
 use Rattle.deal_steps.specs.declared.deals.Racks.{Racks}
 use Rattle.deal_steps.specs.Piles.{kinds, joined, without, greater}
-use Rattle.deal_steps.specs.Steps.{left_by, of_act, left_in, ends_epoch, needed, needed_of, swaps_by, swaps}
+use Rattle.deal_steps.specs.Steps.{remaining_by, of_act, remaining_in, ends_epoch, needed, needed_of, swaps_by, swaps}
 use Rattle.deal_steps.specs.Fitting.{rack_of}
 use Rattle.deal_steps.specs.Bounds.{gone}
 use Rattle.deal_steps.specs.Runs.{Course, none_waiting, waits, size_in, with_size, MayTurn, MayAct, turn_course, act_course, IsRunFrom, HasKinds}
@@ -27,7 +27,7 @@ use Rattle.deal_completion.specs.Completion.{lacking, with_gone, wanted, want_li
 use Rattle.deal_completion.specs.Plain.{IsPlain}
 use Rattle.deal_completion.proofs.WantLaws.{lacks_from}
 use Rattle.deal_completion.proofs.Demand.{demand}
-use Rattle.deal_completion.proofs.PickLaws.{AreKinds, IsOf, picks, sum_left}
+use Rattle.deal_completion.proofs.PickLaws.{AreKinds, IsOf, picks, sum_remaining}
 use Rattle.deal_completion.proofs.DealStates.{IsWhole}
 use Rattle.deal_completion.proofs.DealLaws.{within_test}
 use Rattle.deal_completion.proofs.OnTime.{drawn_by, drawn_at, drawn_in, to_come, IsOnTime, on_time_after, on_time_drawn, IsCovered, covers_pick, room_for_pick, covered_drawn, covered_after}
@@ -59,10 +59,10 @@ kinds_unless false xs are = are
 pub are_wanted : (seat : Seat) (steps : List Step) (gone have : List ℕ) → AreKinds (wanted seat steps gone have)
 are_wanted seat [] gone have = tt
 are_wanted seat (s ∷ steps) gone have =
-    let rest = wanted seat steps (joined gone (left_in seat s)) (greater have (with_gone gone (needed seat s))) in
+    let rest = wanted seat steps (joined gone (remaining_in seat s)) (greater have (with_gone gone (needed seat s))) in
     kinds_append (lacking (with_gone gone (needed seat s)) have) (if ends_epoch seat s then [] else rest)
     (are_lacking (with_gone gone (needed seat s)) have)
-    (kinds_unless (ends_epoch seat s) rest (are_wanted seat steps (joined gone (left_in seat s)) (greater have (with_gone gone (needed seat s)))))
+    (kinds_unless (ends_epoch seat s) rest (are_wanted seat steps (joined gone (remaining_in seat s)) (greater have (with_gone gone (needed seat s)))))
 
 -- ---- sums
 
@@ -183,9 +183,9 @@ bag_lasts c (s ∷ steps) run plain =
 pub record DrawsWell (seat other : Seat) (steps : List Step) (rack other_rack bag : List ℕ) (number : ℕ) (q : Pick) : Type 0 where
   pub is_of : IsOf bag q
   pub all : sum q.taken ≡ number
-  pub left : sum q.left + number ≡ sum bag
+  pub remaining : sum q.remaining + number ≡ sum bag
   pub on : IsOnTime seat steps (joined rack q.taken) 0
-  pub covered : IsCovered (demand seat steps) (demand other steps) (joined rack q.taken) other_rack q.left
+  pub covered : IsCovered (demand seat steps) (demand other steps) (joined rack q.taken) other_rack q.remaining
 
 pub draws_well : (seat other : Seat) (steps : List Step) (rack other_rack bag : List ℕ) (number due : ℕ) → IsPlain steps → length bag ≡ 27
     → IsOnTime seat steps rack number → IsOnTime other steps other_rack due → IsCovered (demand seat steps) (demand other steps) rack other_rack bag
@@ -199,12 +199,12 @@ draws_well seat other steps rack other_rack bag number due plain long on other_o
     (covers_pick seat other steps rack other_rack bag known other_known covered)
     (room_for_pick other steps other_rack bag number due other_known other_on room) in
     let all = p.all in
-    let both = sum_left bag q p.is_of long in
+    let both = sum_remaining bag q p.is_of long in
     let enough : number ≡ number + 0 = omega arith in
     record {
       is_of = p.is_of;
       all = all;
-      left = omega arith;
+      remaining = omega arith;
       on = on_time_drawn seat steps rack (want_list other steps other_rack) bag number 0 q known (subst (λ (n : ℕ). IsOnTime seat steps rack n) enough on) p;
       covered = covered_drawn seat other steps rack other_rack bag number q known other_known p;
     }
@@ -221,26 +221,26 @@ pub record IsReady (c : Course) (steps : List Step) (h : Hands) : Type 0 where
   pub covered : IsCovered (demand First steps) (demand Second steps) (joined h.racks.first c.waiting.first) (joined h.racks.second c.waiting.second) h.bag
 
 -- a player from whose rack nothing leaves, and who draws nothing
-on_time_rests : (seat : Seat) (s : Step) (rest : List Step) (rack : List ℕ) → IsOnTime seat (s ∷ rest) rack 0 → left_in seat s ≡ no_tiles → drawn_in seat s ≡ 0
+on_time_rests : (seat : Seat) (s : Step) (rest : List Step) (rack : List ℕ) → IsOnTime seat (s ∷ rest) rack 0 → remaining_in seat s ≡ no_tiles → drawn_in seat s ≡ 0
     → IsOnTime seat rest rack 0
-on_time_rests seat s rest rack on left none =
-    let nothing : (k : ℕ) → k < 27 → get_or (left_in seat s) k 0 ≡ 0 = λ k h. ap (λ (l : List ℕ). get_or l k 0) left ∙ get-no_tiles k h in
+on_time_rests seat s rest rack on remaining none =
+    let nothing : (k : ℕ) → k < 27 → get_or (remaining_in seat s) k 0 ≡ 0 = λ k h. ap (λ (l : List ℕ). get_or l k 0) remaining ∙ get-no_tiles k h in
     let after = on_time_after seat s rest rack on (λ k h. let z = nothing k h in omega arith) in
-    on_time_same seat rest (without rack (left_in seat s)) rack 0 (subst (λ (n : ℕ). IsOnTime seat rest (without rack (left_in seat s)) n) none after)
-    (λ k h. let z = nothing k h in let w = get-without rack (left_in seat s) k h in omega arith)
+    on_time_same seat rest (without rack (remaining_in seat s)) rack 0 (subst (λ (n : ℕ). IsOnTime seat rest (without rack (remaining_in seat s)) n) none after)
+    (λ k h. let z = nothing k h in let w = get-without rack (remaining_in seat s) k h in omega arith)
 
 covered_rests : (s : Step) (rest : List Step) (rack other_rack bag : List ℕ) → IsCovered (demand First (s ∷ rest)) (demand Second (s ∷ rest)) rack other_rack bag
     → IsCovered (demand First rest) (demand Second rest) rack other_rack bag
 covered_rests s rest rack other_rack bag is = record { covered = λ k h. let c = is.covered k h in omega arith }
 
-ready_rests : (c : Course) (s : Step) (rest : List Step) (h : Hands) → IsReady c (s ∷ rest) h → left_in First s ≡ no_tiles → left_in Second s ≡ no_tiles
+ready_rests : (c : Course) (s : Step) (rest : List Step) (h : Hands) → IsReady c (s ∷ rest) h → remaining_in First s ≡ no_tiles → remaining_in Second s ≡ no_tiles
     → drawn_in First s ≡ 0 → drawn_in Second s ≡ 0 → IsReady c rest h
-ready_rests c s rest h ready left second_left none second_none = record {
+ready_rests c s rest h ready remaining second_remaining none second_none = record {
   first_size = ready.first_size;
   second_size = ready.second_size;
   bag_size = ready.bag_size;
-  first_on = on_time_rests First s rest (joined h.racks.first c.waiting.first) ready.first_on left none;
-  second_on = on_time_rests Second s rest (joined h.racks.second c.waiting.second) ready.second_on second_left second_none;
+  first_on = on_time_rests First s rest (joined h.racks.first c.waiting.first) ready.first_on remaining none;
+  second_on = on_time_rests Second s rest (joined h.racks.second c.waiting.second) ready.second_on second_remaining second_none;
   covered = covered_rests s rest (joined h.racks.first c.waiting.first) (joined h.racks.second c.waiting.second) h.bag ready.covered;
 }
 
@@ -267,75 +267,75 @@ ready_moved c new rest h after ready first second bag same_bag first_same second
 -- time, and the bag has it.
 record IsDrawn (seat other : Seat) (rest : List Step) (rack waiting other_rack other_waiting bag used : List ℕ) (number : ℕ) (q : Pick) : Type 0 where
   pub size : sum (joined (without rack used) q.taken) ≡ sum rack - sum used + number
-  pub left : sum q.left ≡ sum bag - number
+  pub remaining : sum q.remaining ≡ sum bag - number
   pub on : IsOnTime seat rest (joined (joined (without rack used) q.taken) waiting) 0
-  pub covered : IsCovered (demand seat rest) (demand other rest) (joined (joined (without rack used) q.taken) waiting) (joined other_rack other_waiting) q.left
+  pub covered : IsCovered (demand seat rest) (demand other rest) (joined (joined (without rack used) q.taken) waiting) (joined other_rack other_waiting) q.remaining
 
 -- a player lays tiles that are on the rack, and draws
 player_draws : (seat other : Seat) (s : Step) (rest : List Step) (rack waiting other_rack other_waiting bag used : List ℕ) (number : ℕ) → waiting ≡ no_tiles → other_waiting ≡ no_tiles
     → IsOnTime seat (s ∷ rest) (joined rack waiting) 0 → IsOnTime other (s ∷ rest) (joined other_rack other_waiting) 0
     → IsCovered (demand seat (s ∷ rest)) (demand other (s ∷ rest)) (joined rack waiting) (joined other_rack other_waiting) bag
-    → left_in seat s ≡ used → left_in other s ≡ no_tiles → drawn_in seat s ≡ number → drawn_in other s ≡ 0 → length used ≡ 27 → length rack ≡ 27 → length bag ≡ 27
+    → remaining_in seat s ≡ used → remaining_in other s ≡ no_tiles → drawn_in seat s ≡ number → drawn_in other s ≡ 0 → length used ≡ 27 → length rack ≡ 27 → length bag ≡ 27
     → ((k : ℕ) → k < 27 → get_or used k 0 ≤ get_or rack k 0) → IsPlain rest → number + to_come other rest ≤ sum bag
     → IsDrawn seat other rest rack waiting other_rack other_waiting bag used number (pick (want_list seat rest (without rack used)) (want_list other rest other_rack) number bag)
-player_draws seat other s rest rack waiting other_rack other_waiting bag used number nothing other_nothing on other_on covered left other_left draws other_draws long rack_long bag_long there plain room =
+player_draws seat other s rest rack waiting other_rack other_waiting bag used number nothing other_nothing on other_on covered remaining other_remaining draws other_draws long rack_long bag_long there plain room =
     let none = with_none rack waiting nothing in
     let other_none = with_none other_rack other_waiting other_nothing in
     let on_rack = on_time_same seat (s ∷ rest) (joined rack waiting) rack 0 on none in
     let other_on_rack = on_time_same other (s ∷ rest) (joined other_rack other_waiting) other_rack 0 other_on other_none in
     let covered_here = covered_same (demand seat (s ∷ rest)) (demand other (s ∷ rest)) (joined rack waiting) rack (joined other_rack other_waiting) other_rack bag covered none other_none in
-    let there_left : (k : ℕ) → k < 27 → get_or (left_in seat s) k 0 ≤ get_or rack k 0 =
-    λ k h. subst (λ (l : List ℕ). get_or l k 0 ≤ get_or rack k 0) (sym left) (there k h) in
-    let after = subst (λ (l : List ℕ). IsOnTime seat rest (without rack l) (drawn_in seat s)) left (on_time_after seat s rest rack on_rack there_left) in
+    let there_remaining : (k : ℕ) → k < 27 → get_or (remaining_in seat s) k 0 ≤ get_or rack k 0 =
+    λ k h. subst (λ (l : List ℕ). get_or l k 0 ≤ get_or rack k 0) (sym remaining) (there k h) in
+    let after = subst (λ (l : List ℕ). IsOnTime seat rest (without rack l) (drawn_in seat s)) remaining (on_time_after seat s rest rack on_rack there_remaining) in
     let on_rest = subst (λ (n : ℕ). IsOnTime seat rest (without rack used) n) draws after in
-    let covered_rest = subst (λ (l : List ℕ). IsCovered (demand seat rest) (demand other rest) (without rack l) other_rack bag) left
-    (covered_after seat other s rest rack other_rack bag covered_here there_left) in
-    let well = draws_well seat other rest (without rack used) other_rack bag number 0 plain bag_long on_rest (on_time_rests other s rest other_rack other_on_rack other_left other_draws) covered_rest (omega arith) in
+    let covered_rest = subst (λ (l : List ℕ). IsCovered (demand seat rest) (demand other rest) (without rack l) other_rack bag) remaining
+    (covered_after seat other s rest rack other_rack bag covered_here there_remaining) in
+    let well = draws_well seat other rest (without rack used) other_rack bag number 0 plain bag_long on_rest (on_time_rests other s rest other_rack other_on_rack other_remaining other_draws) covered_rest (omega arith) in
     let q = pick (want_list seat rest (without rack used)) (want_list other rest other_rack) number bag in
     let new = joined (without rack used) q.taken in
     let new_none = with_none new waiting nothing in
     let less = sum-without rack used rack_long long there in
     let more = sum-joined (without rack used) q.taken (length-without rack used) well.is_of.long in
     let all = well.all in
-    let bag_left = well.left in
+    let bag_remaining = well.remaining in
     record {
       size = omega arith;
-      left = omega arith;
+      remaining = omega arith;
       on = on_time_same seat rest new (joined new waiting) 0 well.on (λ k h. sym (new_none k h));
-      covered = covered_same (demand seat rest) (demand other rest) new (joined new waiting) other_rack (joined other_rack other_waiting) q.left well.covered
+      covered = covered_same (demand seat rest) (demand other rest) new (joined new waiting) other_rack (joined other_rack other_waiting) q.remaining well.covered
           (λ k h. sym (new_none k h)) (λ k h. sym (other_none k h));
     }
 
 pub play_stands : (player : Seat) (c : Course) (s : Step) (rest : List Step) (h : Hands) (used : List ℕ) (number : ℕ) → IsReady c (s ∷ rest) h → c.waiting ≡ none_waiting
-    → left_in player s ≡ used → left_in (other_seat player) s ≡ no_tiles → drawn_in player s ≡ number → drawn_in (other_seat player) s ≡ 0
+    → remaining_in player s ≡ used → remaining_in (other_seat player) s ≡ no_tiles → drawn_in player s ≡ number → drawn_in (other_seat player) s ≡ 0
     → length used ≡ 27 → length (rack_of h.racks player) ≡ 27 → length h.bag ≡ 27
     → ((k : ℕ) → k < 27 → get_or used k 0 ≤ get_or (rack_of h.racks player) k 0) → IsPlain rest → number + to_come (other_seat player) rest ≤ c.bag
     → IsReady (turn_course c player (motion.Lays used number)) rest (draw player number rest (take_off player used h))
 unfolding draw
-play_stands First c s rest h used number ready waiting left second_left draws second_draws long rack_long bag_long there plain room =
+play_stands First c s rest h used number ready waiting remaining second_remaining draws second_draws long rack_long bag_long there plain room =
     let bag_size = ready.bag_size in
     let size = ready.first_size in
     let drawn = player_draws First Second s rest h.racks.first c.waiting.first h.racks.second c.waiting.second h.bag used number (ap (λ (w : Racks). w.first) waiting) (ap (λ (w : Racks). w.second) waiting)
-    ready.first_on ready.second_on ready.covered left second_left draws second_draws long rack_long bag_long there plain (omega arith) in
+    ready.first_on ready.second_on ready.covered remaining second_remaining draws second_draws long rack_long bag_long there plain (omega arith) in
     record {
       first_size = let now = drawn.size in omega arith;
       second_size = ready.second_size;
-      bag_size = let now = drawn.left in omega arith;
+      bag_size = let now = drawn.remaining in omega arith;
       first_on = drawn.on;
-      second_on = on_time_rests Second s rest (joined h.racks.second c.waiting.second) ready.second_on second_left second_draws;
+      second_on = on_time_rests Second s rest (joined h.racks.second c.waiting.second) ready.second_on second_remaining second_draws;
       covered = drawn.covered;
     }
-play_stands Second c s rest h used number ready waiting left first_left draws first_draws long rack_long bag_long there plain room =
+play_stands Second c s rest h used number ready waiting remaining first_remaining draws first_draws long rack_long bag_long there plain room =
     let bag_size = ready.bag_size in
     let drawn = player_draws Second First s rest h.racks.second c.waiting.second h.racks.first c.waiting.first h.bag used number (ap (λ (w : Racks). w.second) waiting) (ap (λ (w : Racks). w.first) waiting)
     ready.second_on ready.first_on
     (covered_swapped (demand First (s ∷ rest)) (demand Second (s ∷ rest)) (joined h.racks.first c.waiting.first) (joined h.racks.second c.waiting.second) h.bag ready.covered)
-    left first_left draws first_draws long rack_long bag_long there plain (omega arith) in
+    remaining first_remaining draws first_draws long rack_long bag_long there plain (omega arith) in
     record {
       first_size = ready.first_size;
       second_size = let size = ready.second_size in let now = drawn.size in omega arith;
-      bag_size = let now = drawn.left in omega arith;
-      first_on = on_time_rests First s rest (joined h.racks.first c.waiting.first) ready.first_on first_left first_draws;
+      bag_size = let now = drawn.remaining in omega arith;
+      first_on = on_time_rests First s rest (joined h.racks.first c.waiting.first) ready.first_on first_remaining first_draws;
       second_on = drawn.on;
       covered = covered_swapped (demand Second rest) (demand First rest) _ _ _ drawn.covered;
     }
@@ -393,10 +393,10 @@ back_ready rules Second used c rest h ready whole waiting long =
 -- ---- every step keeps the bag and the racks ready
 
 -- what leaves, what is drawn and what is asked for at a step, by its player and its act
-pub left_is : (seat : Seat) (s : Step) (player : Seat) (what : Act) → s.player ≡ player → s.act ≡ what
-    → left_in seat s ≡ (if same_seat player seat then of_act left_by what else no_tiles)
-left_is seat s player what by is =
-    ap (λ (p : Seat). if same_seat p seat then of_act left_by s.act else no_tiles) by ∙ ap (λ (a : Act). if same_seat player seat then of_act left_by a else no_tiles) is
+pub remaining_is : (seat : Seat) (s : Step) (player : Seat) (what : Act) → s.player ≡ player → s.act ≡ what
+    → remaining_in seat s ≡ (if same_seat player seat then of_act remaining_by what else no_tiles)
+remaining_is seat s player what by is =
+    ap (λ (p : Seat). if same_seat p seat then of_act remaining_by s.act else no_tiles) by ∙ ap (λ (a : Act). if same_seat player seat then of_act remaining_by a else no_tiles) is
 
 drawn_is : (seat : Seat) (s : Step) (player : Seat) (what : Act) → s.player ≡ player → s.act ≡ what
     → drawn_in seat s ≡ (if same_seat player seat then drawn_at what else 0)
@@ -412,13 +412,13 @@ either_same false x = refl
 
 -- a step at which nothing leaves a rack and nothing is drawn
 ready_same : (player : Seat) (what : Act) (c : Course) (s : Step) (rest : List Step) (h : Hands) → s.player ≡ player → s.act ≡ what → IsReady c (s ∷ rest) h
-    → of_act left_by what ≡ no_tiles → drawn_at what ≡ 0 → IsReady c rest h
-ready_same player what c s rest h by is ready left none =
-    let left_none : (seat : Seat) → left_in seat s ≡ no_tiles =
-    λ seat. left_is seat s player what by is ∙ ap (λ (l : List ℕ). if same_seat player seat then l else no_tiles) left ∙ either_same (same_seat player seat) no_tiles in
+    → of_act remaining_by what ≡ no_tiles → drawn_at what ≡ 0 → IsReady c rest h
+ready_same player what c s rest h by is ready remaining none =
+    let remaining_none : (seat : Seat) → remaining_in seat s ≡ no_tiles =
+    λ seat. remaining_is seat s player what by is ∙ ap (λ (l : List ℕ). if same_seat player seat then l else no_tiles) remaining ∙ either_same (same_seat player seat) no_tiles in
     let drawn_none : (seat : Seat) → drawn_in seat s ≡ 0 =
     λ seat. drawn_is seat s player what by is ∙ ap (λ (n : ℕ). if same_seat player seat then n else 0) none ∙ either_same (same_seat player seat) 0 in
-    ready_rests c s rest h ready (left_none First) (left_none Second) (drawn_none First) (drawn_none Second)
+    ready_rests c s rest h ready (remaining_none First) (remaining_none Second) (drawn_none First) (drawn_none Second)
 
 pub ready_by : (rules : Rules) (player : Seat) (what : Act) (c : Course) (s : Step) (rest : List Step) (h : Hands) → s.player ≡ player → s.act ≡ what → IsReady c (s ∷ rest) h → IsWhole rules c h
     → MayAct c player what → HasKinds what → swaps what ≡ false → IsPlain rest → is_met player what h.racks ≡ true
@@ -428,12 +428,12 @@ ready_by rules player (act.Turns shown motion.Keeps) c s rest h by is ready whol
     ready_same player (act.Turns shown motion.Keeps) c s rest h by is ready refl refl
 ready_by rules First (act.Turns shown (motion.Lays used drawn)) c s rest h by is ready whole may are plain rest_plain met room =
     let what = act.Turns shown (motion.Lays used drawn) in
-    play_stands First c s rest h used drawn ready may.0 (left_is First s First what by is) (left_is Second s First what by is)
+    play_stands First c s rest h used drawn ready may.0 (remaining_is First s First what by is) (remaining_is Second s First what by is)
     (drawn_is First s First what by is) (drawn_is Second s First what by is) are.1 whole.first_long whole.bag_long
     (λ k h. (shown_there shown used _ met k h).1) rest_plain (omega arith)
 ready_by rules Second (act.Turns shown (motion.Lays used drawn)) c s rest h by is ready whole may are plain rest_plain met room =
     let what = act.Turns shown (motion.Lays used drawn) in
-    play_stands Second c s rest h used drawn ready may.0 (left_is Second s Second what by is) (left_is First s Second what by is)
+    play_stands Second c s rest h used drawn ready may.0 (remaining_is Second s Second what by is) (remaining_is First s Second what by is)
     (drawn_is Second s Second what by is) (drawn_is First s Second what by is) are.1 whole.second_long whole.bag_long
     (λ k h. (shown_there shown used _ met k h).1) rest_plain (omega arith)
 ready_by rules player (act.Turns shown (motion.Tries used)) c s rest h by is ready whole may are plain rest_plain met room =

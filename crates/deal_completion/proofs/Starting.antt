@@ -16,12 +16,12 @@ use Rattle.deal_steps.specs.declared.steps.Step.{Step}
 use Rattle.deal_steps.specs.declared.faults.DealBound.{DealBound}
 use Rattle.deal_steps.specs.declared.faults.DealBound.TheVariants as fault
 use Rattle.deal_steps.specs.Piles.{kinds, joined}
-use Rattle.deal_steps.specs.Steps.{thrown_by, of_act, is_by, is_unknown, throws_unknown, left_in, thrown_in, ends_epoch, needed, needed_of, size_of, swaps_by, swaps}
+use Rattle.deal_steps.specs.Steps.{thrown_by, of_act, is_by, is_unknown, throws_unknown, remaining_in, thrown_in, ends_epoch, needed, needed_of, size_of, swaps_by, swaps}
 use Rattle.ref_tiles.specs.Kinds.{kind_at}
 use Rattle.deal_steps.specs.Bounds.{gone, raised, low, low_at, laid_earlier, thrown, held, is_too_big, short_kind, bound_of, bound_for, bound_at, first_bound_after, first_bound}
 use Rattle.deal_steps.proofs.PileLaws.{get-joined, get-without, get-greater, get-no_tiles, length-no_tiles, length-greater, sum_is, sum_kinds_same}
 use Rattle.deal_completion.specs.Plain.{IsPlain}
-use Rattle.deal_completion.proofs.WantLaws.{asked_or_none, left_asked}
+use Rattle.deal_completion.proofs.WantLaws.{asked_or_none, remaining_asked}
 use Rattle.deal_completion.proofs.Demand.{demand, IsKnownThroughout}
 use Rattle.deal_completion.proofs.PickLaws.{find_range}
 use Rattle.deal_completion.proofs.OnTime.{to_come, IsOnTime, cases_Option, Needs, IsMoment, moment_here, moment_later}
@@ -39,24 +39,24 @@ past_with-append (x ∷ xs) ys past = past_with-append xs ys (x ∷ past)
 low_on : (seat : Seat) (s : Step) (past : List Step) → ends_epoch seat s ≡ false → low seat (s ∷ past) ≡ low_at seat s past
 low_on seat s past known = ap (λ (b : Bool). if b then no_tiles else low_at seat s past) known
 
-gone_on : (seat : Seat) (s : Step) (past : List Step) → ends_epoch seat s ≡ false → gone seat (s ∷ past) ≡ joined (gone seat past) (left_in seat s)
-gone_on seat s past known = ap (λ (b : Bool). if b then no_tiles else joined (gone seat past) (left_in seat s)) known
+gone_on : (seat : Seat) (s : Step) (past : List Step) → ends_epoch seat s ≡ false → gone seat (s ∷ past) ≡ joined (gone seat past) (remaining_in seat s)
+gone_on seat s past known = ap (λ (b : Bool). if b then no_tiles else joined (gone seat past) (remaining_in seat s)) known
 
-raised_gone : (o : Option (List ℕ)) (gone low left : List ℕ) (k : ℕ) → k < 27 → get_or gone k 0 ≤ get_or low k 0 → get_or left k 0 ≤ get_or (asked_or_none o) k 0
-    → get_or (joined gone left) k 0 ≤ get_or (raised gone low o) k 0
-raised_gone None gone low left k h le less = let z = get-no_tiles k h in let j = get-joined gone left k h in omega arith
-raised_gone (Some tiles) gone low left k h le less =
-    let j = get-joined gone left k h in
+raised_gone : (o : Option (List ℕ)) (gone low remaining : List ℕ) (k : ℕ) → k < 27 → get_or gone k 0 ≤ get_or low k 0 → get_or remaining k 0 ≤ get_or (asked_or_none o) k 0
+    → get_or (joined gone remaining) k 0 ≤ get_or (raised gone low o) k 0
+raised_gone None gone low remaining k h le less = let z = get-no_tiles k h in let j = get-joined gone remaining k h in omega arith
+raised_gone (Some tiles) gone low remaining k h le less =
+    let j = get-joined gone remaining k h in
     let t = get-joined gone tiles k h in
     let g = get-greater low (joined gone tiles) k h in
     omega arith
 
-raised_demand : (o : Option (List ℕ)) (gone low left : List ℕ) (d k : ℕ) → k < 27 → get_or gone k 0 ≤ get_or low k 0 → get_or left k 0 ≤ get_or (asked_or_none o) k 0
-    → max (get_or (raised gone low o) k 0) (get_or (joined gone left) k 0 + d)
-    ≡ max (get_or low k 0) (get_or gone k 0 + max (get_or (asked_or_none o) k 0) (get_or left k 0 + d))
-raised_demand None gone low left d k h le less = let z = get-no_tiles k h in let j = get-joined gone left k h in omega arith
-raised_demand (Some tiles) gone low left d k h le less =
-    let j = get-joined gone left k h in
+raised_demand : (o : Option (List ℕ)) (gone low remaining : List ℕ) (d k : ℕ) → k < 27 → get_or gone k 0 ≤ get_or low k 0 → get_or remaining k 0 ≤ get_or (asked_or_none o) k 0
+    → max (get_or (raised gone low o) k 0) (get_or (joined gone remaining) k 0 + d)
+    ≡ max (get_or low k 0) (get_or gone k 0 + max (get_or (asked_or_none o) k 0) (get_or remaining k 0 + d))
+raised_demand None gone low remaining d k h le less = let z = get-no_tiles k h in let j = get-joined gone remaining k h in omega arith
+raised_demand (Some tiles) gone low remaining d k h le less =
+    let j = get-joined gone remaining k h in
     let t = get-joined gone tiles k h in
     let g = get-greater low (joined gone tiles) k h in
     omega arith
@@ -66,12 +66,12 @@ pub low_is_demand : (seat : Seat) (steps past : List Step) (k : ℕ) → IsKnown
     → get_or (low seat (past_with steps past)) k 0 ≡ max (get_or (low seat past) k 0) (get_or (gone seat past) k 0 + demand seat steps k)
 low_is_demand seat [] past k known h le = omega arith
 low_is_demand seat (s ∷ steps) past k known h le =
-    let less : get_or (left_in seat s) k 0 ≤ get_or (asked_or_none (needed seat s)) k 0 = left_asked seat s.player s.act k h in
+    let less : get_or (remaining_in seat s) k 0 ≤ get_or (asked_or_none (needed seat s)) k 0 = remaining_asked seat s.player s.act k h in
     let low_is = ap (λ (l : List ℕ). get_or l k 0) (low_on seat s past known.0) in
     let gone_is = ap (λ (l : List ℕ). get_or l k 0) (gone_on seat s past known.0) in
-    let more = raised_gone (needed seat s) (gone seat past) (low seat past) (left_in seat s) k h le less in
+    let more = raised_gone (needed seat s) (gone seat past) (low seat past) (remaining_in seat s) k h le less in
     let rest = low_is_demand seat steps (s ∷ past) k known.1 h (omega arith) in
-    let math = raised_demand (needed seat s) (gone seat past) (low seat past) (left_in seat s) (demand seat steps k) k h le less in
+    let math = raised_demand (needed seat s) (gone seat past) (low seat past) (remaining_in seat s) (demand seat steps k) k h le less in
     rest ∙ ap (λ (n : ℕ). max n (get_or (gone seat (s ∷ past)) k 0 + demand seat steps k)) low_is
     ∙ ap (λ (n : ℕ). max (get_or (low_at seat s past) k 0) (n + demand seat steps k)) gone_is ∙ math
 
@@ -219,7 +219,7 @@ asks_none : (seat : Seat) (s : Step) (steps : List Step) (k : ℕ) → k < 27 �
 asks_none seat s steps k h none rest =
     let e = ap (λ (o : Option (List ℕ)). get_or (asked_or_none o) k 0) none in
     let z = get-no_tiles k h in
-    let l : get_or (left_in seat s) k 0 ≤ get_or (asked_or_none (needed seat s)) k 0 = left_asked seat s.player s.act k h in
+    let l : get_or (remaining_in seat s) k 0 ≤ get_or (asked_or_none (needed seat s)) k 0 = remaining_asked seat s.player s.act k h in
     omega arith
 
 last_of_both : (steps : List Step) → AskNothing steps ⊎ IsLastOfBoth steps
@@ -227,8 +227,8 @@ last_of_both [] = inl (λ k h. (refl, refl))
 last_of_both (s ∷ steps) = elim (last_of_both steps) [
   | inr last ↦ inr (record {
     moment = moment_later EitherNeeds s steps last.moment;
-    first_before = λ k h. ap (λ (n : ℕ). max (get_or (asked_or_none (needed First s)) k 0) (get_or (left_in First s) k 0 + n)) (last.first_before k h);
-    second_before = λ k h. ap (λ (n : ℕ). max (get_or (asked_or_none (needed Second s)) k 0) (get_or (left_in Second s) k 0 + n)) (last.second_before k h);
+    first_before = λ k h. ap (λ (n : ℕ). max (get_or (asked_or_none (needed First s)) k 0) (get_or (remaining_in First s) k 0 + n)) (last.first_before k h);
+    second_before = λ k h. ap (λ (n : ℕ). max (get_or (asked_or_none (needed Second s)) k 0) (get_or (remaining_in Second s) k 0 + n)) (last.second_before k h);
   })
   | inl nothing ↦ elim (cases_Option (needed First s)) [
     | inr some ↦ inr (last_here s steps some.0 (inl some.1) nothing)
@@ -307,9 +307,9 @@ covered_at_start rules steps none plain k h = elim (last_of_both steps) [
       let s = m.step in
       let past = past_with before [] in
       let plain_here = subst IsPlain m.parts plain in
-      let none_here = no_bound rules before s m.behind [] (subst (λ (l : List Step). first_bound rules l ≡ None) m.parts none) in
-      let a = held_most First before s m.behind k plain_here h in
-      let b = held_most Second before s m.behind k plain_here h in
+      let none_here = no_bound rules before s m.following [] (subst (λ (l : List Step). first_bound rules l ≡ None) m.parts none) in
+      let a = held_most First before s m.following k plain_here h in
+      let b = held_most Second before s m.following k plain_here h in
       let c = last.first_before k h in
       let d = last.second_before k h in
       elim m.asks [

@@ -6,7 +6,7 @@ use Rattle.ref_tiles.specs.Counting.{no_tiles}
 use Rattle.gcg_read.specs.Players.{same_seat}
 use Rattle.gcg_read.specs.declared.events.Seat.{Seat}
 use Rattle.deal_steps.specs.Piles.{kinds, joined, without, greater}
-use Rattle.deal_steps.specs.Steps.{needed, needed_of, left_in, left_by, of_act, ends_epoch, used_by, throws_unknown}
+use Rattle.deal_steps.specs.Steps.{needed, needed_of, remaining_in, remaining_by, of_act, ends_epoch, used_by, throws_unknown}
 use Rattle.deal_steps.specs.declared.steps.Motion.TheVariants as motion
 use Rattle.deal_steps.specs.declared.steps.Act.{Act}
 use Rattle.deal_steps.specs.declared.steps.Act.TheVariants as act
@@ -81,7 +81,7 @@ asked_or_none (Some tiles) = tiles
 
 -- what is left of a rack after a step, if all that it asks for was there
 abbrev pub rest_after : Seat → Step → List ℕ → List ℕ
-rest_after seat s rest = without (greater rest (asked_or_none (needed seat s))) (left_in seat s)
+rest_after seat s rest = without (greater rest (asked_or_none (needed seat s))) (remaining_in seat s)
 
 abbrev pub wanted_by : Seat → List Step → (rest : List ℕ) → List ℕ
 wanted_by seat [] rest = []
@@ -89,29 +89,29 @@ wanted_by seat (s ∷ steps) rest =
     lacking (asked_or_none (needed seat s)) rest ++ (if ends_epoch seat s then [] else wanted_by seat steps (rest_after seat s rest))
 
 -- what leaves a rack for good is asked for before
-pub left_asked : (seat player : Seat) (what : Act) (k : ℕ) → k < 27
-    → get_or (if same_seat player seat then of_act left_by what else no_tiles) k 0 ≤ get_or (asked_or_none (needed_of seat player what)) k 0
-left_asked seat player (act.Turns shown motion.Keeps) k below =
+pub remaining_asked : (seat player : Seat) (what : Act) (k : ℕ) → k < 27
+    → get_or (if same_seat player seat then of_act remaining_by what else no_tiles) k 0 ≤ get_or (asked_or_none (needed_of seat player what)) k 0
+remaining_asked seat player (act.Turns shown motion.Keeps) k below =
     elim (same_seat player seat) as (λ b. get_or (if b then no_tiles else no_tiles) k 0 ≤ get_or (asked_or_none (if b then Some (greater shown no_tiles) else None)) k 0)
     [ true ↦ omega (arith, get-no_tiles k below) | false ↦ omega arith ]
-left_asked seat player (act.Turns shown (motion.Lays used drawn)) k below =
+remaining_asked seat player (act.Turns shown (motion.Lays used drawn)) k below =
     elim (same_seat player seat) as (λ b. get_or (if b then used else no_tiles) k 0 ≤ get_or (asked_or_none (if b then Some (greater shown used) else None)) k 0)
     [ true ↦ omega (arith, get-greater shown used k below) | false ↦ omega arith ]
-left_asked seat player (act.Turns shown (motion.Tries used)) k below =
+remaining_asked seat player (act.Turns shown (motion.Tries used)) k below =
     elim (same_seat player seat) as (λ b. get_or (if b then no_tiles else no_tiles) k 0 ≤ get_or (asked_or_none (if b then Some (greater shown used) else None)) k 0)
     [ true ↦ omega (arith, get-no_tiles k below) | false ↦ omega arith ]
-left_asked seat player (act.Turns shown (motion.Throws tiles)) k below =
+remaining_asked seat player (act.Turns shown (motion.Throws tiles)) k below =
     elim (same_seat player seat) as (λ b. get_or (if b then tiles else no_tiles) k 0 ≤ get_or (asked_or_none (if b then Some (greater shown tiles) else None)) k 0)
     [ true ↦ omega (arith, get-greater shown tiles k below) | false ↦ omega arith ]
-left_asked seat player (act.Turns shown (motion.ThrowsUnknown n)) k below =
+remaining_asked seat player (act.Turns shown (motion.ThrowsUnknown n)) k below =
     elim (same_seat player seat) as (λ b. get_or (if b then no_tiles else no_tiles) k 0 ≤ get_or (asked_or_none (if b then Some (greater shown no_tiles) else None)) k 0)
     [ true ↦ omega (arith, get-no_tiles k below) | false ↦ omega arith ]
-left_asked seat player (act.TakesBack used) k below =
+remaining_asked seat player (act.TakesBack used) k below =
     elim (same_seat player seat) as (λ b. get_or (if b then no_tiles else no_tiles) k 0 ≤ get_or no_tiles k 0) [ true ↦ omega arith | false ↦ omega arith ]
-left_asked seat player (act.Ends holder tiles) k below =
+remaining_asked seat player (act.Ends holder tiles) k below =
     elim (same_seat player seat) as (λ b. get_or (if b then no_tiles else no_tiles) k 0 ≤ get_or (asked_or_none (if same_seat holder seat then Some tiles else None)) k 0)
     [ true ↦ omega (arith, get-no_tiles k below) | false ↦ omega (arith, get-no_tiles k below) ]
-left_asked seat player act.Rests k below =
+remaining_asked seat player act.Rests k below =
     elim (same_seat player seat) as (λ b. get_or (if b then no_tiles else no_tiles) k 0 ≤ get_or no_tiles k 0) [ true ↦ omega arith | false ↦ omega arith ]
 
 -- what is lacking at a moment, in both forms
@@ -125,30 +125,30 @@ lacking_by gone have rest (Some tiles) is =
     omega arith)
 
 -- and what is had after it
-had_by : (gone have rest left : List ℕ) (asked : Option (List ℕ)) → have ≡ joined rest gone
-    → ((k : ℕ) → k < 27 → get_or left k 0 ≤ get_or (asked_or_none asked) k 0)
-    → greater have (with_gone gone asked) ≡ joined (without (greater rest (asked_or_none asked)) left) (joined gone left)
-had_by gone have rest left None is few =
-    joined_is (greater have no_tiles) (without (greater rest no_tiles) left) (joined gone left) (length-greater have no_tiles)
+had_by : (gone have rest remaining : List ℕ) (asked : Option (List ℕ)) → have ≡ joined rest gone
+    → ((k : ℕ) → k < 27 → get_or remaining k 0 ≤ get_or (asked_or_none asked) k 0)
+    → greater have (with_gone gone asked) ≡ joined (without (greater rest (asked_or_none asked)) remaining) (joined gone remaining)
+had_by gone have rest remaining None is few =
+    joined_is (greater have no_tiles) (without (greater rest no_tiles) remaining) (joined gone remaining) (length-greater have no_tiles)
     (λ k below.
     let fewer = few k below in
     let none = get-no_tiles k below in
     let of_have : get_or have k 0 ≡ get_or rest k 0 + get_or gone k 0 = ap (λ (xs : List ℕ). get_or xs k 0) is ∙ get-joined rest gone k below in
     let one = get-greater have no_tiles k below in
-    let two = get-without (greater rest no_tiles) left k below in
+    let two = get-without (greater rest no_tiles) remaining k below in
     let three = get-greater rest no_tiles k below in
-    let four = get-joined gone left k below in
+    let four = get-joined gone remaining k below in
     omega arith)
-had_by gone have rest left (Some tiles) is few =
-    joined_is (greater have (joined gone tiles)) (without (greater rest tiles) left) (joined gone left) (length-greater have (joined gone tiles))
+had_by gone have rest remaining (Some tiles) is few =
+    joined_is (greater have (joined gone tiles)) (without (greater rest tiles) remaining) (joined gone remaining) (length-greater have (joined gone tiles))
     (λ k below.
     let fewer = few k below in
     let of_have : get_or have k 0 ≡ get_or rest k 0 + get_or gone k 0 = ap (λ (xs : List ℕ). get_or xs k 0) is ∙ get-joined rest gone k below in
     let of_gone = get-joined gone tiles k below in
     let one = get-greater have (joined gone tiles) k below in
-    let two = get-without (greater rest tiles) left k below in
+    let two = get-without (greater rest tiles) remaining k below in
     let three = get-greater rest tiles k below in
-    let four = get-joined gone left k below in
+    let four = get-joined gone remaining k below in
     omega arith)
 
 -- the two forms
@@ -156,9 +156,9 @@ pub wanted_is_by : (seat : Seat) (steps : List Step) (gone have rest : List ℕ)
 wanted_is_by seat [] gone have rest is = refl
 wanted_is_by seat (s ∷ steps) gone have rest is =
     let here = lacking_by gone have rest (needed seat s) is in
-    let had = had_by gone have rest (left_in seat s) (needed seat s) is (left_asked seat s.player s.act) in
-    let later = wanted_is_by seat steps (joined gone (left_in seat s)) (greater have (with_gone gone (needed seat s))) (rest_after seat s rest) had in
-    ap (λ (xs : List ℕ). xs ++ (if ends_epoch seat s then [] else wanted seat steps (joined gone (left_in seat s)) (greater have (with_gone gone (needed seat s))))) here
+    let had = had_by gone have rest (remaining_in seat s) (needed seat s) is (remaining_asked seat s.player s.act) in
+    let later = wanted_is_by seat steps (joined gone (remaining_in seat s)) (greater have (with_gone gone (needed seat s))) (rest_after seat s rest) had in
+    ap (λ (xs : List ℕ). xs ++ (if ends_epoch seat s then [] else wanted seat steps (joined gone (remaining_in seat s)) (greater have (with_gone gone (needed seat s))))) here
     ∙ ap (λ (xs : List ℕ). lacking (asked_or_none (needed seat s)) rest ++ (if ends_epoch seat s then [] else xs)) later
 
 pub want_list_by : (seat : Seat) (steps : List Step) (rack : List ℕ) → length rack ≡ 27 → want_list seat steps rack ≡ wanted_by seat steps rack
@@ -197,12 +197,12 @@ want_past seat s steps rest xs ys long none e =
     let more = want_more seat s steps rest xs ys (none_ends seat s.player s.act none) e in
     let nothing : lacking (asked_or_none (needed seat s)) rest ≡ [] = ap (λ (o : Option (List ℕ)). lacking (asked_or_none o) rest) none ∙ lacking_none rest in
     let same : rest_after seat s rest ≡ rest =
-    same_numbers (rest_after seat s rest) rest (length-without (greater rest (asked_or_none (needed seat s))) (left_in seat s)) long
+    same_numbers (rest_after seat s rest) rest (length-without (greater rest (asked_or_none (needed seat s))) (remaining_in seat s)) long
     (λ k below.
-    let one = get-without (greater rest (asked_or_none (needed seat s))) (left_in seat s) k below in
+    let one = get-without (greater rest (asked_or_none (needed seat s))) (remaining_in seat s) k below in
     let two = get-greater rest (asked_or_none (needed seat s)) k below in
     let three : get_or (asked_or_none (needed seat s)) k 0 ≡ 0 = ap (λ (o : Option (List ℕ)). get_or (asked_or_none o) k 0) none ∙ get-no_tiles k below in
-    let four : get_or (left_in seat s) k 0 ≤ get_or (asked_or_none (needed seat s)) k 0 = left_asked seat s.player s.act k below in
+    let four : get_or (remaining_in seat s) k 0 ≤ get_or (asked_or_none (needed seat s)) k 0 = remaining_asked seat s.player s.act k below in
     omega arith) in
     ap (λ (r : List ℕ). xs ++ wanted_by seat steps r) (sym same)
     ∙ ap (λ (zs : List ℕ). zs ++ wanted_by seat steps (rest_after seat s rest)) (sym (append-nil xs) ∙ ap (λ (zs : List ℕ). xs ++ zs) (sym nothing))
@@ -219,13 +219,13 @@ want_at seat steps i s rest xs ys within is e =
 
 -- it asks for tiles, and the list continues
 pub asked_more : (seat : Seat) (s : Step) (steps : List Step) (asked rest new xs zs ys : List ℕ) → needed seat s ≡ Some asked → ends_epoch seat s ≡ false
-    → zs ≡ xs ++ lacking asked rest → new ≡ without (greater rest asked) (left_in seat s) → xs ++ wanted_by seat (s ∷ steps) rest ≡ ys
+    → zs ≡ xs ++ lacking asked rest → new ≡ without (greater rest asked) (remaining_in seat s) → xs ++ wanted_by seat (s ∷ steps) rest ≡ ys
     → zs ++ wanted_by seat steps new ≡ ys
 asked_more seat s steps asked rest new xs zs ys asks goes_on list_is rest_is e =
     let tiles : asked_or_none (needed seat s) ≡ asked = ap asked_or_none asks in
     ap (λ (l : List ℕ). l ++ wanted_by seat steps new) (list_is ∙ ap (λ (t : List ℕ). xs ++ lacking t rest) (sym tiles))
     ∙ ap (λ (r : List ℕ). (xs ++ lacking (asked_or_none (needed seat s)) rest) ++ wanted_by seat steps r)
-    (rest_is ∙ ap (λ (t : List ℕ). without (greater rest t) (left_in seat s)) (sym tiles))
+    (rest_is ∙ ap (λ (t : List ℕ). without (greater rest t) (remaining_in seat s)) (sym tiles))
     ∙ want_more seat s steps rest xs ys goes_on e
 
 -- or it ends there

@@ -7,7 +7,7 @@ use Rattle.ref_tiles.specs.declared.rulebook.Rules.{Rules}
 use Rattle.gcg_read.specs.Players.{other_seat}
 use Rattle.gcg_read.specs.declared.events.Seat.{Seat}
 use Rattle.deal_steps.specs.Piles.{kinds, joined, without, greater}
-use Rattle.deal_steps.specs.Steps.{used_by, needed, left_in, ends_epoch, opener}
+use Rattle.deal_steps.specs.Steps.{used_by, needed, remaining_in, ends_epoch, opener}
 use Rattle.deal_steps.specs.Fitting.{rack_of, with_rack}
 use Rattle.deal_steps.specs.declared.steps.Motion.{Motion}
 use Rattle.deal_steps.specs.declared.steps.Motion.TheVariants as motion
@@ -37,7 +37,7 @@ wanted seat [] gone have = []
 wanted seat (s ∷ steps) gone have =
     lacking (with_gone gone (needed seat s)) have
     ++ (if ends_epoch seat s then []
-    else wanted seat steps (joined gone (left_in seat s)) (greater have (with_gone gone (needed seat s))))
+    else wanted seat steps (joined gone (remaining_in seat s)) (greater have (with_gone gone (needed seat s))))
 
 -- that of a player with a rack
 abbrev pub want_list : Seat → List Step → (rack : List ℕ) → List ℕ
@@ -48,19 +48,19 @@ want_list seat steps rack = wanted seat steps no_tiles rack
 -- one more tile of a kind
 unfoldable pub with_one : Pick → ℕ → Pick
 with_one p k =
-    record { taken = slice_set p.taken k (slice_index p.taken k + 1); left = slice_set p.left k (slice_index p.left k - 1) }
+    record { taken = slice_set p.taken k (slice_index p.taken k + 1); remaining = slice_set p.remaining k (slice_index p.remaining k - 1) }
 
 -- The tiles of a list are taken in order, each if it is there, until `number` are taken.
 abbrev pub pick_listed : (list : List ℕ) (number : ℕ) → Pick → Pick
 pick_listed [] number p = p
 pick_listed (k ∷ list) number p =
-    pick_listed list number (if nat_lt (sum p.taken) number && nat_lt 0 (slice_index p.left k) then with_one p k else p)
+    pick_listed list number (if nat_lt (sum p.taken) number && nat_lt 0 (slice_index p.remaining k) then with_one p k else p)
 
 -- the first kind of which more are left than the reserved list has, otherwise the first kind that is left
-abbrev pub next_kind : (reserved left : List ℕ) → Option ℕ
-next_kind reserved left =
-    option_or (find (λ k. nat_lt (count_by (λ j. j == k) reserved) (slice_index left k)) kinds)
-    (find (λ k. nat_lt 0 (slice_index left k)) kinds)
+abbrev pub next_kind : (reserved remaining : List ℕ) → Option ℕ
+next_kind reserved remaining =
+    option_or (find (λ k. nat_lt (count_by (λ j. j == k) reserved) (slice_index remaining k)) kinds)
+    (find (λ k. nat_lt 0 (slice_index remaining k)) kinds)
 
 abbrev pub with_next : Pick → Option ℕ → Pick
 with_next p None = p
@@ -69,14 +69,14 @@ with_next p (Some k) = with_one p k
 -- `more` further tiles
 abbrev pub pick_more : (reserved : List ℕ) (more : ℕ) → Pick → Pick
 pick_more reserved zero p = p
-pick_more reserved (suc more) p = pick_more reserved more (with_next p (next_kind reserved p.left))
+pick_more reserved (suc more) p = pick_more reserved more (with_next p (next_kind reserved p.remaining))
 
 -- the tiles of a list first, and then others
 abbrev pub pick_then : (reserved : List ℕ) (number : ℕ) → Pick → Pick
 pick_then reserved number p = pick_more reserved (number - sum p.taken) p
 
 unfoldable pub pick : (list reserved : List ℕ) (number : ℕ) (tiles : List ℕ) → Pick
-pick list reserved number tiles = pick_then reserved number (pick_listed list number (record { taken = no_tiles; left = tiles }))
+pick list reserved number tiles = pick_then reserved number (pick_listed list number (record { taken = no_tiles; remaining = tiles }))
 
 -- ---- draws
 
@@ -92,7 +92,7 @@ drawn seat number steps h =
     pick (want_list seat steps (rack_of h.racks seat)) (want_list (other_seat seat) steps (rack_of h.racks (other_seat seat))) number h.bag
 
 abbrev pub put_drawn : Seat → Hands → Pick → Hands
-put_drawn seat h p = put_on seat p.taken (record h { bag = p.left })
+put_drawn seat h p = put_on seat p.taken (record h { bag = p.remaining })
 
 unfoldable pub draw : Seat → (number : ℕ) → List Step → Hands → Hands
 draw seat number steps h = put_drawn seat h (drawn seat number steps h)
@@ -106,7 +106,7 @@ exchange seat thrown steps h = back_to_bag thrown (draw seat (sum thrown) steps 
 
 -- the tiles that a player throws when only their number is known: not those that an empty rack would want first
 unfoldable pub chosen : Seat → (number : ℕ) → List Step → (rack : List ℕ) → List ℕ
-chosen seat number steps rack = (pick (want_list seat steps no_tiles) [] (sum rack - number) rack).left
+chosen seat number steps rack = (pick (want_list seat steps no_tiles) [] (sum rack - number) rack).remaining
 
 -- ---- the deal
 

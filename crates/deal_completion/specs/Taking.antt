@@ -15,18 +15,18 @@ unfoldable pub times_of : List ℕ → List ℕ
 times_of list = table (λ k. count_by (λ j. j == k) list)
 
 -- the first kind of which more are left than are reserved, otherwise the first kind that is left
-abbrev pub next_spare : (times left : List ℕ) → Option ℕ
-next_spare times left =
-    option_or (find (λ k. nat_lt (slice_index times k) (slice_index left k)) kinds) (find (λ k. nat_lt 0 (slice_index left k)) kinds)
+abbrev pub next_spare : (times remaining : List ℕ) → Option ℕ
+next_spare times remaining =
+    option_or (find (λ k. nat_lt (slice_index times k) (slice_index remaining k)) kinds) (find (λ k. nat_lt 0 (slice_index remaining k)) kinds)
 
 -- `more` further tiles
 abbrev pub pick_spare : (times : List ℕ) (more : ℕ) → Pick → Pick
 pick_spare times zero p = p
-pick_spare times (suc more) p = pick_spare times more (with_next p (next_spare times p.left))
+pick_spare times (suc more) p = pick_spare times more (with_next p (next_spare times p.remaining))
 
 -- there is room for all tiles of each kind
 abbrev pub HasRoomIn : Pick → Type 0
-HasRoomIn p = (k : ℕ) → k < 27 → slice_index p.taken k + slice_index p.left k < 256
+HasRoomIn p = (k : ℕ) → k < 27 → slice_index p.taken k + slice_index p.remaining k < 256
 
 -- for each kind there is room for a player's tiles and those of the bag together
 abbrev pub HasRoomToDraw : Seat → Hands → Type 0

@@ -29,7 +29,7 @@ pub fn draw(
     let reserved = want_list(alloc, other, steps, hands.racks.of(other))?;
     let pick = pick_tiles(&list, &reserved, number, &hands.bag);
     let after = Hands {
-        bag: pick.left,
+        bag: pick.remaining,
         racks: hands.racks,
     };
     Ok(after.with_tiles(seat, &pick.taken))
@@ -69,5 +69,5 @@ pub fn chosen(
 {
     let list = want_list(alloc, seat, steps, &Counts::new())?;
     let kept = rack.total().saturating_sub(number);
-    Ok(pick_tiles(&list, &[], kept, rack).left)
+    Ok(pick_tiles(&list, &[], kept, rack).remaining)
 }

@@ -12,7 +12,7 @@ pub struct Pick {
     /// Those that were taken.
     pub taken: Counts,
     /// Those that are left.
-    pub left: Counts,
+    pub remaining: Counts,
 }
 
 /// How often each kind is in a list.
@@ -56,12 +56,12 @@ fn one_less(tiles: &Counts, kind: usize) -> Counts
 
 /// The first kind of which more are left than are reserved.
 #[tactic(auto, using(crate::proofs::PickLoops::find_past, crate::proofs::PickLoops::find_here, crate::proofs::PickLoops::find_end), unfolding(deal_steps::specs::Piles::kinds))]
-fn first_spare(times: &[usize; KINDS], left: &Counts) -> Option<usize>
-    ensures first { result ≡ find (λ k. nat_lt (slice_index times.now k) (slice_index left.now k)) kinds }
+fn first_spare(times: &[usize; KINDS], remaining: &Counts) -> Option<usize>
+    ensures first { result ≡ find (λ k. nat_lt (slice_index times.now k) (slice_index remaining.now k)) kinds }
     ensures below { IfSome result (λ k. k < 27) }
-    ensures there { IfSome result (λ k. 0 < slice_index left.now k) }
+    ensures there { IfSome result (λ k. 0 < slice_index remaining.now k) }
 {
-    let numbers = left.numbers();
+    let numbers = remaining.numbers();
     for kind in 0..KINDS {
         if times[kind] < usize::from(numbers[kind]) {
             return Some(kind);
@@ -72,12 +72,12 @@ fn first_spare(times: &[usize; KINDS], left: &Counts) -> Option<usize>
 
 /// The first kind that is left.
 #[tactic(auto, using(crate::proofs::PickLoops::find_past, crate::proofs::PickLoops::find_here, crate::proofs::PickLoops::find_end), unfolding(deal_steps::specs::Piles::kinds))]
-fn first_left(left: &Counts) -> Option<usize>
-    ensures first { result ≡ find (λ k. nat_lt 0 (slice_index left.now k)) kinds }
+fn first_remaining(remaining: &Counts) -> Option<usize>
+    ensures first { result ≡ find (λ k. nat_lt 0 (slice_index remaining.now k)) kinds }
     ensures below { IfSome result (λ k. k < 27) }
-    ensures there { IfSome result (λ k. 0 < slice_index left.now k) }
+    ensures there { IfSome result (λ k. 0 < slice_index remaining.now k) }
 {
-    let numbers = left.numbers();
+    let numbers = remaining.numbers();
     for kind in 0..KINDS {
         if 0 < numbers[kind] {
             return Some(kind);
@@ -87,14 +87,14 @@ fn first_left(left: &Counts) -> Option<usize>
 }
 
 /// The first kind of which more are left than are reserved, otherwise the first kind that is left.
-fn next_spare(times: &[usize; KINDS], left: &Counts) -> Option<usize>
-    ensures next { result ≡ next_spare times.now left.now }
+fn next_spare(times: &[usize; KINDS], remaining: &Counts) -> Option<usize>
+    ensures next { result ≡ next_spare times.now remaining.now }
     ensures below { IfSome result (λ k. k < 27) }
-    ensures there { IfSome result (λ k. 0 < slice_index left.now k) }
+    ensures there { IfSome result (λ k. 0 < slice_index remaining.now k) }
 {
-    match first_spare(times, left) {
+    match first_spare(times, remaining) {
         Some(kind) => Some(kind),
-        None => first_left(left),
+        None => first_remaining(remaining),
     }
 }
 
@@ -103,14 +103,14 @@ impl Pick {
     #[tactic(auto, using(crate::proofs::PickLoops::one_room), unfolding(crate::specs::Completion::with_one))]
     fn take_one(&mut self, kind: usize)
         requires kind { kind < 27 }
-        requires there { 0 < slice_index self.old.left kind }
+        requires there { 0 < slice_index self.old.remaining kind }
         requires room { HasRoomIn self.old }
         ensures taken { self.new ≡ with_one self.old kind }
         ensures total { sum self.new.taken ≡ sum self.old.taken + 1 }
         ensures room { HasRoomIn self.new }
     {
         self.taken = one_more(&self.taken, kind);
-        self.left = one_less(&self.left, kind);
+        self.remaining = one_less(&self.remaining, kind);
     }
 
     /// Takes the tiles of a list in order, each if it is there, up to a number of tiles.
@@ -124,9 +124,9 @@ impl Pick {
             if more == 0 {
                 return;
             }
-            let left = self.left.numbers();
+            let remaining = self.remaining.numbers();
             let kind = usize::from(*kind);
-            if kind < KINDS && 0 < left[kind] {
+            if kind < KINDS && 0 < remaining[kind] {
                 self.take_one(kind);
                 more -= 1;
             }
@@ -136,10 +136,10 @@ impl Pick {
     /// Takes one more tile that is not reserved, as long as there are any.
     fn take_next(&mut self, times: &[usize; KINDS])
         requires room { HasRoomIn self.old }
-        ensures taken { self.new ≡ with_next self.old (next_spare times.now self.old.left) }
+        ensures taken { self.new ≡ with_next self.old (next_spare times.now self.old.remaining) }
         ensures room { HasRoomIn self.new }
     {
-        if let Some(kind) = next_spare(times, &self.left) {
+        if let Some(kind) = next_spare(times, &self.remaining) {
             self.take_one(kind);
         }
     }
@@ -164,7 +164,7 @@ pub fn pick_tiles(list: &[u8], reserved: &[u8], number: usize, tiles: &Counts) -
     tiles.law_of_numbers();
     let mut pick = Pick {
         taken: Counts::new(),
-        left: *tiles,
+        remaining: *tiles,
     };
     pick.take_listed(list, number);
     let more = number.saturating_sub(pick.taken.total());

@@ -1,6 +1,6 @@
 //! What a player's later lines ask for beyond what the player has.
 ghost use Rattle.std.specs.Prelude.{◌≡◌, ◌++◌, replicate, OnOk, IfOk};
-ghost use Rattle.deal_steps.specs.Steps.{needed, left_by, left_in, ends_epoch};
+ghost use Rattle.deal_steps.specs.Steps.{needed, remaining_by, remaining_in, ends_epoch};
 ghost use Rattle.deal_completion.specs.Completion.{lacking, want_list};
 
 use deal_steps::{Act, Motion, Step, greater, used_by, without};
@@ -32,8 +32,8 @@ fn needed(seat: Seat, step: &Step) -> Option<Counts>
 }
 
 /// The known tiles that leave a rack with a turn.
-fn left_by(motion: &Motion) -> Counts
-    ensures { result ≡ left_by motion.now }
+fn remaining_by(motion: &Motion) -> Counts
+    ensures { result ≡ remaining_by motion.now }
 {
     match motion {
         Motion::Lays { used, .. } => *used,
@@ -43,11 +43,11 @@ fn left_by(motion: &Motion) -> Counts
 }
 
 /// The known tiles that leave a player's rack at a step.
-fn left_in(seat: Seat, step: &Step) -> Counts
-    ensures { result ≡ left_in seat step.now }
+fn remaining_in(seat: Seat, step: &Step) -> Counts
+    ensures { result ≡ remaining_in seat step.now }
 {
     match &step.act {
-        Act::Turns { motion, .. } if same_seat(step.player, seat) => left_by(motion),
+        Act::Turns { motion, .. } if same_seat(step.player, seat) => remaining_by(motion),
         Act::Turns { .. } | Act::TakesBack(_) | Act::Ends { .. } | Act::Rests => Counts::new(),
     }
 }
@@ -107,7 +107,7 @@ pub fn want_list(
             if ends_epoch(seat, step) {
                 return Ok(list);
             }
-            rest = without(&greater(&rest, &asked), &left_in(seat, step));
+            rest = without(&greater(&rest, &asked), &remaining_in(seat, step));
         }
     }
     Ok(list)

@@ -101,7 +101,7 @@ carries_on chosen s next from to inside long follows_board rules held next_held 
     let whole_bag = bag_size chosen rules s racks all long adds in
     let both = drawn_law f g _ _ _ _ _ _ _ _ _ _ _ _ _ _ (number_in chosen bag) (number_beside chosen bag) s.bag first second moved.drawn beside.drawn whole_bag in
     let bags = bag_law from.bag to.bag (swaps s.act) (number_in chosen (in_bag rules s racks)) (number_in chosen (in_bag rules next racks2))
-    drawn1 drawn2 (number_in chosen (stray First s held)) (number_in chosen (stray Second s held)) f.left_in g.left_in s.bag (f.drawn + g.drawn)
+    drawn1 drawn2 (number_in chosen (stray First s held)) (number_in chosen (stray Second s held)) f.remaining_in g.remaining_in s.bag (f.drawn + g.drawn)
     (bag_after (swaps s.act) _ _ _ _ _ _ _ _ _ _ _ _ _ _ _ _ _ before after follows_board moved.first.gone moved.second.gone refl refl)
     both.0 both.1
     in
@@ -109,12 +109,12 @@ carries_on chosen s next from to inside long follows_board rules held next_held 
 
 -- ---- in the parts that the code makes
 
-pub carried_is : (chosen : List Bool) (s next : Step) (from to : Places) (inside : ℕ) (f g : Flow) (gained1 gained2 lost1 lost2 rest out left : ℕ) {after : ℕ}
+pub carried_is : (chosen : List Bool) (s next : Step) (from to : Places) (inside : ℕ) (f g : Flow) (gained1 gained2 lost1 lost2 rest out remaining : ℕ) {after : ℕ}
     → f ≡ flow_of chosen First s next → g ≡ flow_of chosen Second s next
     → gained1 ≡ gained_by f from.first to.first to.bag → gained2 ≡ gained_by g from.second to.second to.bag
     → lost1 ≡ lost_by f from.bag from.first to.first to.bag → lost2 ≡ lost_by g from.bag from.second to.second to.bag
     → rest ≡ s.bag - (f.drawn + g.drawn) → out ≡ where_so (from.bag && not to.bag) rest
-    → left ≡ inside + (gained1 + gained2) - (lost1 + lost2 + out) → after ≡ min left 4294967296
+    → remaining ≡ inside + (gained1 + gained2) - (lost1 + lost2 + out) → after ≡ min remaining 4294967296
     → after ≡ carried_to chosen s next from to inside
 unfolding carried_to
-carried_is chosen s next from to inside f g gained1 gained2 lost1 lost2 rest out left is is2 is3 is4 is5 is6 is7 is8 is9 is10 = cc
+carried_is chosen s next from to inside f g gained1 gained2 lost1 lost2 rest out remaining is is2 is3 is4 is5 is6 is7 is8 is9 is10 = cc

@@ -49,10 +49,10 @@ strays seat player what thrown = cond (same_seat player seat) (strays_in what th
 -- ---- one rack, kind by kind
 
 -- Tiles leave a rack, others come to it, from the board or from the bag.
-record Moves (bag rack new left thrown back : List ℕ) : Type 0 where
-  off : (k : ℕ) → k < 27 → get_or left k 0 + get_or thrown k 0 ≤ get_or rack k 0
-  gone : (k : ℕ) → k < 27 → get_or rack k 0 + get_or back k 0 ≤ get_or new k 0 + get_or left k 0 + get_or thrown k 0
-  drawn : (k : ℕ) → k < 27 → get_or new k 0 + get_or left k 0 + get_or thrown k 0 ≤ get_or rack k 0 + get_or back k 0 + get_or bag k 0
+record Moves (bag rack new remaining thrown back : List ℕ) : Type 0 where
+  off : (k : ℕ) → k < 27 → get_or remaining k 0 + get_or thrown k 0 ≤ get_or rack k 0
+  gone : (k : ℕ) → k < 27 → get_or rack k 0 + get_or back k 0 ≤ get_or new k 0 + get_or remaining k 0 + get_or thrown k 0
+  drawn : (k : ℕ) → k < 27 → get_or new k 0 + get_or remaining k 0 + get_or thrown k 0 ≤ get_or rack k 0 + get_or back k 0 + get_or bag k 0
 
 stays : (bag rack new : List ℕ) → new ≡ rack → Moves bag rack new no_tiles no_tiles no_tiles
 stays bag rack new same =
@@ -127,33 +127,33 @@ moves_own bag player act.Rests held new allows acts = stays bag (rack_of held.ra
 -- ---- by number
 
 -- Tiles leave a rack, and others come.
-pub record Moved (rack new left thrown back : ℕ) : Type 0 where
-  pub off : left + thrown ≤ rack
-  pub gone : rack + back ≤ new + left + thrown
+pub record Moved (rack new remaining thrown back : ℕ) : Type 0 where
+  pub off : remaining + thrown ≤ rack
+  pub gone : rack + back ≤ new + remaining + thrown
 
-off_by : (n : List ℕ → ℕ) → IsCounting n → (bag rack new left thrown back : List ℕ) → Moves bag rack new left thrown back
-    → Moved (n rack) (n new) (n left) (n thrown) (n back)
-off_by n counting bag rack new left thrown back moves =
+off_by : (n : List ℕ → ℕ) → IsCounting n → (bag rack new remaining thrown back : List ℕ) → Moves bag rack new remaining thrown back
+    → Moved (n rack) (n new) (n remaining) (n thrown) (n back)
+off_by n counting bag rack new remaining thrown back moves =
     let none = counting.none in
-    let off = counting.sums left thrown no_tiles no_tiles rack no_tiles no_tiles no_tiles
+    let off = counting.sums remaining thrown no_tiles no_tiles rack no_tiles no_tiles no_tiles
     (λ k small. let zero_there = get-no_tiles k small in let here = moves.off k small in omega (arith, zero_there, here)) in
-    let gone = counting.sums rack back no_tiles no_tiles new left thrown no_tiles
+    let gone = counting.sums rack back no_tiles no_tiles new remaining thrown no_tiles
     (λ k small. let zero_there = get-no_tiles k small in let here = moves.gone k small in omega (arith, zero_there, here)) in
     record { off = omega (arith, none, off); gone = omega (arith, none, gone) }
 
-drawn_by : (n : List ℕ → ℕ) → IsCounting n → (bag rack new left thrown back : List ℕ) → Moves bag rack new left thrown back
-    → n new + n left + n thrown ≤ n rack + n back + n bag
-drawn_by n counting bag rack new left thrown back moves =
+drawn_by : (n : List ℕ → ℕ) → IsCounting n → (bag rack new remaining thrown back : List ℕ) → Moves bag rack new remaining thrown back
+    → n new + n remaining + n thrown ≤ n rack + n back + n bag
+drawn_by n counting bag rack new remaining thrown back moves =
     let none = counting.none in
-    let drawn = counting.sums new left thrown no_tiles rack back bag no_tiles
+    let drawn = counting.sums new remaining thrown no_tiles rack back bag no_tiles
     (λ k small. let zero_there = get-no_tiles k small in let here = moves.drawn k small in omega (arith, zero_there, here)) in
     omega (arith, none, drawn)
 
 -- and what is drawn to one rack if the other stays
-drawn_beside : (n : List ℕ → ℕ) → IsCounting n → (bag rack new left thrown back other next : List ℕ) → Moves bag rack new left thrown back → next ≡ other
-    → n new + n left + n thrown + (n next + n no_tiles + n no_tiles) ≤ n rack + n back + (n other + n no_tiles) + n bag
-drawn_beside n counting bag rack new left thrown back other next moves same =
-    let drawn = drawn_by n counting bag rack new left thrown back moves in
+drawn_beside : (n : List ℕ → ℕ) → IsCounting n → (bag rack new remaining thrown back other next : List ℕ) → Moves bag rack new remaining thrown back → next ≡ other
+    → n new + n remaining + n thrown + (n next + n no_tiles + n no_tiles) ≤ n rack + n back + (n other + n no_tiles) + n bag
+drawn_beside n counting bag rack new remaining thrown back other next moves same =
+    let drawn = drawn_by n counting bag rack new remaining thrown back moves in
     let number = ap n same in
     let none = counting.none in
     omega (arith, drawn, number, none)

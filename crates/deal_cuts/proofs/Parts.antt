@@ -37,13 +37,13 @@ sums_where : (so : ℕ → Bool) (a b c d e f g h : List ℕ)
     → number_where so a + number_where so b + number_where so c + number_where so d ≤ number_where so e + number_where so f + number_where so g + number_where so h
 unfolding number_where
 sums_where so a b c d e f g h below =
-    let left = four_sums (λ k. where_so (so k) (get_or a k 0)) (λ k. where_so (so k) (get_or b k 0)) (λ k. where_so (so k) (get_or c k 0)) (λ k. where_so (so k) (get_or d k 0)) in
+    let remaining = four_sums (λ k. where_so (so k) (get_or a k 0)) (λ k. where_so (so k) (get_or b k 0)) (λ k. where_so (so k) (get_or c k 0)) (λ k. where_so (so k) (get_or d k 0)) in
     let right = four_sums (λ k. where_so (so k) (get_or e k 0)) (λ k. where_so (so k) (get_or f k 0)) (λ k. where_so (so k) (get_or g k 0)) (λ k. where_so (so k) (get_or h k 0)) in
     let less = sum_kinds_le
     (λ k. where_so (so k) (get_or a k 0) + where_so (so k) (get_or b k 0) + where_so (so k) (get_or c k 0) + where_so (so k) (get_or d k 0))
     (λ k. where_so (so k) (get_or e k 0) + where_so (so k) (get_or f k 0) + where_so (so k) (get_or g k 0) + where_so (so k) (get_or h k 0))
     (λ k small. where_so-sums (so k) _ _ _ _ _ _ _ _ (below k small)) in
-    omega (arith, left, right, less)
+    omega (arith, remaining, right, less)
 
 zeros : (xs : List ℕ) → sum_by (λ k. 0) xs ≡ 0
 zeros [] = refl

@@ -148,9 +148,9 @@ over_at_end rules chosen inside steps places i s here long long2 is is2 shown =
     let two : drop i places ≡ here ∷ drop (i + 1) places = split_at places i here no_places (omega arith) is2 in
     let past : drop (i + 1) steps ≡ [] = drop_of_length-le steps (omega arith) in
     let past2 : drop (i + 1) places ≡ [] = drop_of_length-le places (omega arith) in
-    let one_left : drop i steps ≡ s ∷ [] = one ∙ ap (λ (xs : List Step). s ∷ xs) past in
-    let two_left : drop i places ≡ here ∷ [] = two ∙ ap (λ (ys : List Places). here ∷ ys) past2 in
-    subst (λ (xs : List Step). IsShown chosen rules inside xs (here ∷ [])) one_left (subst (λ (ys : List Places). IsShown chosen rules inside (drop i steps) ys) two_left shown)
+    let one_remaining : drop i steps ≡ s ∷ [] = one ∙ ap (λ (xs : List Step). s ∷ xs) past in
+    let two_remaining : drop i places ≡ here ∷ [] = two ∙ ap (λ (ys : List Places). here ∷ ys) past2 in
+    subst (λ (xs : List Step). IsShown chosen rules inside xs (here ∷ [])) one_remaining (subst (λ (ys : List Places). IsShown chosen rules inside (drop i steps) ys) two_remaining shown)
 
 -- a cut depends on no more steps than it has places
 shown_in_front : (rules : Rules) (chosen : List Bool) (inside : ℕ) (steps : List Step) (places : List Places) → IsShown chosen rules inside steps places

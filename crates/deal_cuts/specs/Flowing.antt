@@ -57,8 +57,8 @@ flow_of chosen seat s next =
       size = size_of s seat;
       known_in = number_in chosen (known_at seat s);
       known_beside = number_beside chosen (known_at seat s);
-      left_in = number_in chosen (leaving seat s);
-      left_beside = number_beside chosen (leaving seat s);
+      remaining_in = number_in chosen (leaving seat s);
+      remaining_beside = number_beside chosen (leaving seat s);
       to_bag = swaps s.act;
       unknown = unknown_at seat s;
       back_in = number_in chosen (coming seat s);
@@ -69,7 +69,7 @@ flow_of chosen seat s next =
 
 -- the tiles of a rack, except those that are known to leave it
 unfoldable pub others_of : Flow → ℕ
-others_of f = f.size - (f.left_in + f.left_beside)
+others_of f = f.size - (f.remaining_in + f.remaining_beside)
 
 -- the number of these that get outside, by whether rack and bag are inside afterwards
 unfoldable pub strays_of : Flow → (stays bag : Bool) → ℕ
@@ -78,19 +78,19 @@ strays_of f stays bag = where_so (not stays) (others_of f - f.unknown) + where_s
 -- the least number of tiles that come in by a rack, by whether it was inside
 unfoldable pub gained_by : Flow → (was stays bag : Bool) → ℕ
 gained_by f was stays bag =
-    where_so (not was) (f.known_in - f.left_in - strays_of f stays bag) + where_so (f.to_bag && bag) f.left_in + where_so stays f.back_in
+    where_so (not was) (f.known_in - f.remaining_in - strays_of f stays bag) + where_so (f.to_bag && bag) f.remaining_in + where_so stays f.back_in
 
 -- the greatest number that get out
 unfoldable pub lost_by : Flow → (bag_was was stays bag : Bool) → ℕ
 lost_by f bag_was was stays bag =
-    where_so was (f.left_in + min (strays_of f stays bag) (others_of f - (f.known_beside - f.left_beside)))
+    where_so was (f.remaining_in + min (strays_of f stays bag) (others_of f - (f.known_beside - f.remaining_beside)))
     + where_so (bag_was && not stays) f.drawn
 
 -- the board before the next step is as this step leaves it, counting tiles of the chosen kinds
 unfoldable pub BoardFollows : (chosen : List Bool) → (s next : Step) → Type 0
 BoardFollows chosen s next =
     number_in chosen next.board + ((flow_of chosen First s next).back_in + (flow_of chosen Second s next).back_in)
-    ≡ number_in chosen s.board + where_so (not (swaps s.act)) ((flow_of chosen First s next).left_in + (flow_of chosen Second s next).left_in)
+    ≡ number_in chosen s.board + where_so (not (swaps s.act)) ((flow_of chosen First s next).remaining_in + (flow_of chosen Second s next).remaining_in)
 
 -- the least number inside before the next step, given a least number before a step; no more than 2^32 are counted
 unfoldable pub carried_to : (chosen : List Bool) → (s next : Step) → (from to : Places) → (inside : ℕ) → ℕ
@@ -129,7 +129,7 @@ pub record AreSmall (s : Step) : Type 0 where
 pub record IsSmall (f : Flow) : Type 0 where
   pub size : f.size < 65536
   pub known : f.known_in + f.known_beside ≤ 6885
-  pub left : f.left_in + f.left_beside ≤ 6885
+  pub remaining : f.remaining_in + f.remaining_beside ≤ 6885
   pub unknown : f.unknown < 65536
   pub back : f.back_in ≤ 6885
   pub drawn : f.drawn < 262144

@@ -3,8 +3,8 @@ ghost use Rattle.std.specs.Prelude.{◌≡◌, ◌<◌, ◌↔◌, IsTrue};
 ghost use Rattle.gcg_read.specs.declared.events.Seat.TheVariants.{First, Second};
 ghost use Rattle.deal_cuts.specs.Flowing.{AreSmall, IsSmall, flow_of, others_of, strays_of, gained_by, lost_by, BoardFollows};
 
+use crate::reported::{coming, known_at, leaving, throws, unknown_at};
 use crate::splits::{split_by, where_out, where_so};
-use crate::told::{coming, known_at, leaving, throws, unknown_at};
 use deal_steps::Step;
 use gcg_read::Seat;
 use ref_tiles::KINDS;
@@ -19,9 +19,9 @@ pub struct Flow {
     /// and the number known to be of others.
     pub known_beside: usize,
     /// The number of tiles of the chosen kinds that are known to leave it,
-    pub left_in: usize,
+    pub remaining_in: usize,
     /// and the number of others.
-    pub left_beside: usize,
+    pub remaining_beside: usize,
     /// Whether these go to the bag and not to the board.
     pub to_bag: bool,
     /// The number of unknown tiles that are thrown to the bag.
@@ -55,18 +55,18 @@ pub fn flow_of(chosen: &[bool; KINDS], seat: Seat, step: &Step, next: &Step) -> 
     ensures small { IsSmall result }
 {
     let known = split_by(chosen, &known_at(seat, step));
-    let left = split_by(chosen, &leaving(seat, step));
+    let remaining = split_by(chosen, &leaving(seat, step));
     let back = split_by(chosen, &coming(seat, step));
     let unknown = unknown_at(seat, step);
     let size = step.size_of(seat);
-    let after = next.size_of(seat) + left.within + left.beside + unknown;
+    let after = next.size_of(seat) + remaining.within + remaining.beside + unknown;
     let before = size + back.within + back.beside;
     Flow {
         size,
         known_in: known.within,
         known_beside: known.beside,
-        left_in: left.within,
-        left_beside: left.beside,
+        remaining_in: remaining.within,
+        remaining_beside: remaining.beside,
         to_bag: throws(&step.act),
         unknown,
         back_in: back.within,
@@ -81,7 +81,8 @@ fn others_of(flow: &Flow) -> usize
     ensures is { result ≡ others_of flow.now }
     ensures small { result < 65536 }
 {
-    flow.size.saturating_sub(flow.left_in + flow.left_beside)
+    flow.size
+        .saturating_sub(flow.remaining_in + flow.remaining_beside)
 }
 
 /// The number of these that get outside, by whether rack and bag are inside afterwards.
@@ -102,10 +103,10 @@ pub fn gained_by(flow: &Flow, was: bool, stays: bool, bag: bool) -> usize
     ensures is { result ≡ gained_by flow.now was stays bag }
     ensures small { result < 32768 }
 {
-    let kept = flow.known_in.saturating_sub(flow.left_in);
+    let kept = flow.known_in.saturating_sub(flow.remaining_in);
     let brought = kept.saturating_sub(strays_of(flow, stays, bag));
     where_so(!was, brought)
-        + where_so(flow.to_bag && bag, flow.left_in)
+        + where_so(flow.to_bag && bag, flow.remaining_in)
         + where_so(stays, flow.back_in)
 }
 
@@ -116,9 +117,9 @@ pub fn lost_by(flow: &Flow, bag_was: bool, was: bool, stays: bool, bag: bool) ->
     ensures is { result ≡ lost_by flow.now bag_was was stays bag }
     ensures small { result < 1048576 }
 {
-    let beside = flow.known_beside.saturating_sub(flow.left_beside);
+    let beside = flow.known_beside.saturating_sub(flow.remaining_beside);
     let within = others_of(flow).saturating_sub(beside);
-    let lost = flow.left_in + strays_of(flow, stays, bag).min(within);
+    let lost = flow.remaining_in + strays_of(flow, stays, bag).min(within);
     where_so(was, lost) + where_out(bag_was, stays, flow.drawn)
 }
 
@@ -139,6 +140,6 @@ pub fn board_follows(
 {
     let before = split_by(chosen, &step.board).within;
     let after = split_by(chosen, &next.board).within;
-    let left = where_so(!throws(&step.act), first.left_in + second.left_in);
-    after + (first.back_in + second.back_in) == before + left
+    let remaining = where_so(!throws(&step.act), first.remaining_in + second.remaining_in);
+    after + (first.back_in + second.back_in) == before + remaining
 }

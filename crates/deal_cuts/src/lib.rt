@@ -9,9 +9,9 @@ mod cuts;
 mod earlier;
 mod flows;
 mod laws;
+mod reported;
 mod ruling;
 mod splits;
-mod told;
 
 pub use cuts::{Cut, Places};
 pub use earlier::Earlier;

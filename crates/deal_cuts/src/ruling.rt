@@ -5,8 +5,8 @@ ghost use Rattle.deal_cuts.specs.Flowing.{AreSmall, BoardFollows, at_least, carr
 
 use crate::cuts::{Cut, Places};
 use crate::flows::{board_follows, flow_of, gained_by, is_small, lost_by};
+use crate::reported::known_at;
 use crate::splits::{split_by, where_out, where_so};
-use crate::told::known_at;
 use deal_steps::Step;
 use gcg_read::Seat;
 use ref_tiles::{KINDS, Rules};

@@ -49,7 +49,7 @@ impl Excess {
             own = plus(&own, &net.all);
         }
         if near.has(bag_node(net.moves.len())) {
-            own = minus(&own, &net.left);
+            own = minus(&own, &net.remaining);
         }
         Excess { own, room: 0 }
     }

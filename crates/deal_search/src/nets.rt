@@ -44,7 +44,7 @@ pub struct Net {
     /// The tiles in the bag before the first move.
     pub all: Pile,
     /// The tiles in play at the end.
-    pub left: Pile,
+    pub remaining: Pile,
 }
 
 /// Where the tiles are while they are dealt.
@@ -125,12 +125,12 @@ impl Net {
         for place in 0..moves.len() {
             make_move(&moves, place, &mut table, &mut arcs)?;
         }
-        let left = plus(&table.bag, &plus(&table.first, &table.second));
+        let remaining = plus(&table.bag, &plus(&table.first, &table.second));
         Ok(Net {
             moves,
             arcs,
             all,
-            left,
+            remaining,
         })
     }
 

@@ -13,27 +13,27 @@ struct Taker {
     /// What was taken.
     taken: Pile,
     /// The number of tiles still to be taken.
-    left: i32,
+    remaining: i32,
 }
 
 impl Taker {
     /// A player who has tiles and takes a number of others.
-    fn new(have: &Pile, there: &Pile, left: i32) -> Taker {
+    fn new(have: &Pile, there: &Pile, remaining: i32) -> Taker {
         Taker {
             have: *have,
             there: *there,
             taken: [0; KINDS],
-            left,
+            remaining,
         }
     }
 
     /// Takes tiles of a kind: as many as are wanted, available, and still to be taken.
     fn take(&mut self, kind: usize, wanted: i32) {
         if kind < KINDS {
-            let number = wanted.min(self.there[kind]).min(self.left).max(0);
+            let number = wanted.min(self.there[kind]).min(self.remaining).max(0);
             self.there[kind] = self.there[kind].wrapping_sub(number);
             self.taken[kind] = self.taken[kind].wrapping_add(number);
-            self.left = self.left.wrapping_sub(number);
+            self.remaining = self.remaining.wrapping_sub(number);
         }
     }
 
@@ -52,7 +52,7 @@ impl Taker {
     fn take_wanted(&mut self, moves: &[Move], first: usize) {
         let mut place = first;
         for _ in 0..moves.len() {
-            if self.left <= 0 || place >= moves.len() {
+            if self.remaining <= 0 || place >= moves.len() {
                 return;
             }
             let turn = &moves[place];
@@ -67,7 +67,7 @@ impl Taker {
 
     /// Takes the rest, each time from the kind of which there are most.
     fn take_most(&mut self) {
-        for _ in 0..self.left {
+        for _ in 0..self.remaining {
             let kind = most_of(&self.there);
             if kind < KINDS {
                 self.there[kind] = self.there[kind].wrapping_sub(1);

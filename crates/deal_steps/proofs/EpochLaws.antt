@@ -7,7 +7,7 @@ use Rattle.ref_tiles.specs.Counting.{no_tiles}
 use Rattle.gcg_read.specs.declared.events.Seat.{Seat}
 use Rattle.deal_steps.specs.declared.steps.Step.{Step}
 use Rattle.deal_steps.specs.Piles.{joined, greater}
-use Rattle.deal_steps.specs.Steps.{left_in, ends_epoch, needed}
+use Rattle.deal_steps.specs.Steps.{remaining_in, ends_epoch, needed}
 use Rattle.deal_steps.specs.Bounds.{gone, low, raised}
 use Rattle.deal_steps.specs.Laws.{since, Shows, GoneIsSum, LowIsMost, LowIsReached}
 use Rattle.deal_steps.proofs.PileLaws.{get-joined, get-greater, get-no_tiles}
@@ -18,12 +18,12 @@ pub gone_is_sum : GoneIsSum
 gone_is_sum seat [] k below = get-no_tiles k below
 gone_is_sum seat (s ∷ past) k below = by (ends_epoch seat s) (gone_is_sum seat past k below)
   where
-    by : (ends : Bool) → get_or (gone seat past) k 0 ≡ sum_by (λ t. get_or (left_in seat t) k 0) (since seat past)
-        → get_or (cond ends no_tiles (joined (gone seat past) (left_in seat s))) k 0 ≡ sum_by (λ t. get_or (left_in seat t) k 0) (cond ends [] (s ∷ since seat past))
+    by : (ends : Bool) → get_or (gone seat past) k 0 ≡ sum_by (λ t. get_or (remaining_in seat t) k 0) (since seat past)
+        → get_or (cond ends no_tiles (joined (gone seat past) (remaining_in seat s))) k 0 ≡ sum_by (λ t. get_or (remaining_in seat t) k 0) (cond ends [] (s ∷ since seat past))
     by true before = get-no_tiles k below
     by false before =
-        let both = get-joined (gone seat past) (left_in seat s) k below in
-        let sums = sum_by-cons (λ t. get_or (left_in seat t) k 0) s (since seat past) in
+        let both = get-joined (gone seat past) (remaining_in seat s) k below in
+        let sums = sum_by-cons (λ t. get_or (remaining_in seat t) k 0) s (since seat past) in
         omega (arith, before, both, sums)
 
 -- the steps of earlier epochs do not matter for it
@@ -32,9 +32,9 @@ gone_since seat [] = refl
 gone_since seat (s ∷ past) = by (ends_epoch seat s) refl (gone_since seat past)
   where
     by : (ends : Bool) → ends_epoch seat s ≡ ends → gone seat (since seat past) ≡ gone seat past
-        → gone seat (cond ends [] (s ∷ since seat past)) ≡ cond ends no_tiles (joined (gone seat past) (left_in seat s))
+        → gone seat (cond ends [] (s ∷ since seat past)) ≡ cond ends no_tiles (joined (gone seat past) (remaining_in seat s))
     by true e before = refl
-    by false e before = rw e (ap (λ (xs : List ℕ). joined xs (left_in seat s)) before)
+    by false e before = rw e (ap (λ (xs : List ℕ). joined xs (remaining_in seat s)) before)
 
 -- ---- the most that a moment shows
 
@@ -68,9 +68,9 @@ most_at seat (s ∷ past) k below later moment earlier tiles e needs = by (ends_
     by false [] e before =
         let here : s ≡ moment = ap (λ (xs : List Step). get_or xs 0 s) e in
         let rest : since seat past ≡ earlier = ap (drop 1) e in
-        let left : gone seat past ≡ gone seat earlier = sym (gone_since seat past) ∙ ap (gone seat) rest in
+        let remaining : gone seat past ≡ gone seat earlier = sym (gone_since seat past) ∙ ap (gone seat) rest in
         let needs_here : needed seat s ≡ Some tiles = ap (needed seat) here ∙ needs in
-        rw (sym left) (raised_shows (gone seat past) (low seat past) tiles (needed seat s) k below needs_here)
+        rw (sym remaining) (raised_shows (gone seat past) (low seat past) tiles (needed seat s) k below needs_here)
     by false (x ∷ l) e before =
         let rest : since seat past ≡ l ++ moment ∷ earlier = ap (drop 1) e in
         let fewer = before l rest in

@@ -21,7 +21,7 @@ use Rattle.deal_steps.specs.declared.faults.DealBound.{DealBound}
 use Rattle.deal_steps.specs.declared.faults.DealBound.TheVariants as fault
 use Rattle.deal_steps.specs.declared.known.Known.{Known}
 use Rattle.deal_steps.specs.Piles.{kinds, joined, without, greater}
-use Rattle.deal_steps.specs.Steps.{used_by, left_by, laid_by, thrown_by, of_act, is_unknown, throws_unknown, needed_of, size_of}
+use Rattle.deal_steps.specs.Steps.{used_by, remaining_by, laid_by, thrown_by, of_act, is_unknown, throws_unknown, needed_of, size_of}
 use Rattle.ref_tiles.specs.Kinds.{kind_at}
 use Rattle.deal_steps.specs.Bounds.{gone, low, low_at, laid, laid_earlier, thrown, held, raised, is_too_big, short_kind, bound_of, bound_for, bound_at, first_bound_after}
 use Rattle.deal_steps.specs.Knowing.{known_of, with_known, raised_by, IsKnown, IsShown, short_of, excess_of, excess, shown_by, turned_by, moved_by, HasRoom}
@@ -41,16 +41,16 @@ nothing_new low known gone e =
     omega (arith, whole, more, none))
 
 -- a moment shows tiles, of which some leave
-pub tiles_shown : (low known gone tiles left : List ℕ) → low ≡ joined known gone → ((k : ℕ) → k < 27 → get_or left k 0 ≤ get_or tiles k 0)
-    → greater low (joined gone tiles) ≡ joined (without (greater known tiles) left) (joined gone left)
-tiles_shown low known gone tiles left e fewer =
-    joined_is (greater low (joined gone tiles)) (without (greater known tiles) left) (joined gone left) (length-greater low (joined gone tiles)) (λ k below.
+pub tiles_shown : (low known gone tiles remaining : List ℕ) → low ≡ joined known gone → ((k : ℕ) → k < 27 → get_or remaining k 0 ≤ get_or tiles k 0)
+    → greater low (joined gone tiles) ≡ joined (without (greater known tiles) remaining) (joined gone remaining)
+tiles_shown low known gone tiles remaining e fewer =
+    joined_is (greater low (joined gone tiles)) (without (greater known tiles) remaining) (joined gone remaining) (length-greater low (joined gone tiles)) (λ k below.
     let whole = number_in low known gone k e below in
     let most = get-greater low (joined gone tiles) k below in
     let shown = get-joined gone tiles k below in
-    let rest = get-without (greater known tiles) left k below in
+    let rest = get-without (greater known tiles) remaining k below in
     let now = get-greater known tiles k below in
-    let off = get-joined gone left k below in
+    let off = get-joined gone remaining k below in
     let some = fewer k below in
     omega (arith, whole, most, shown, rest, now, off, some))
 
@@ -97,7 +97,7 @@ kept_known known Second tiles = refl
 -- a player's own turn
 own_turn : (seat : Seat) (shown : List ℕ) (what : Motion) (low gone : List ℕ) (known : Known) → low ≡ joined (known_of known seat) gone
     → (if is_unknown what then no_tiles else greater low (joined gone (greater shown (used_by what))))
-    ≡ joined (known_of (turned_by seat what (raised_by seat (greater shown (used_by what)) known)) seat) (if is_unknown what then no_tiles else joined gone (left_by what))
+    ≡ joined (known_of (turned_by seat what (raised_by seat (greater shown (used_by what)) known)) seat) (if is_unknown what then no_tiles else joined gone (remaining_by what))
 own_turn seat shown motion.Keeps low gone known e =
     let tiles = greater shown no_tiles in
     rw (set_known known seat (greater (known_of known seat) tiles)) (tiles_stay low (known_of known seat) gone tiles e)
@@ -141,7 +141,7 @@ no_turn false low known gone e = e
 pub side_known : (seat player : Seat) (what : Act) (low gone : List ℕ) (known : Known) → low ≡ joined (known_of known seat) gone
     → (if same_seat player seat && throws_unknown what then no_tiles else raised gone low (needed_of seat player what))
     ≡ joined (known_of (moved_by player what (shown_by player what known)) seat)
-    (if same_seat player seat && throws_unknown what then no_tiles else joined gone (if same_seat player seat then of_act left_by what else no_tiles))
+    (if same_seat player seat && throws_unknown what then no_tiles else joined gone (if same_seat player seat then of_act remaining_by what else no_tiles))
 side_known First First (act.Turns shown what) low gone known e = own_turn First shown what low gone known e
 side_known First Second (act.Turns shown what) low gone known e = not_own First (greater shown (used_by what)) what low gone known e
 side_known Second First (act.Turns shown what) low gone known e = not_own Second (greater shown (used_by what)) what low gone known e
@@ -237,11 +237,11 @@ laid_known player act.Rests first second known e = nothing_laid player known.lai
 -- ---- epochs
 
 -- the tiles that leave a rack are those that are laid and those that are thrown
-even_after : (earlier gone laid thrown left used tiles : List ℕ) (k : ℕ) → k < 27 → get_or earlier k 0 + get_or gone k 0 ≡ get_or laid k 0 + get_or thrown k 0
-    → get_or left k 0 ≡ get_or used k 0 + get_or tiles k 0
-    → get_or earlier k 0 + get_or (joined gone left) k 0 ≡ get_or (joined laid used) k 0 + get_or (joined thrown tiles) k 0
-even_after earlier gone laid thrown left used tiles k below e parts =
-    let one = get-joined gone left k below in
+even_after : (earlier gone laid thrown remaining used tiles : List ℕ) (k : ℕ) → k < 27 → get_or earlier k 0 + get_or gone k 0 ≡ get_or laid k 0 + get_or thrown k 0
+    → get_or remaining k 0 ≡ get_or used k 0 + get_or tiles k 0
+    → get_or earlier k 0 + get_or (joined gone remaining) k 0 ≡ get_or (joined laid used) k 0 + get_or (joined thrown tiles) k 0
+even_after earlier gone laid thrown remaining used tiles k below e parts =
+    let one = get-joined gone remaining k below in
     let two = get-joined laid used k below in
     let three = get-joined thrown tiles k below in
     omega (arith, e, parts, one, two, three)
@@ -259,14 +259,14 @@ even_anew laid k below =
 
 pub epoch_step : (seat player : Seat) (what : Act) (earlier gone laid thrown : List ℕ) (k : ℕ) → k < 27 → get_or earlier k 0 + get_or gone k 0 ≡ get_or laid k 0 + get_or thrown k 0
     → get_or (if same_seat player seat && throws_unknown what then laid else earlier) k 0
-    + get_or (if same_seat player seat && throws_unknown what then no_tiles else joined gone (if same_seat player seat then of_act left_by what else no_tiles)) k 0
+    + get_or (if same_seat player seat && throws_unknown what then no_tiles else joined gone (if same_seat player seat then of_act remaining_by what else no_tiles)) k 0
     ≡ get_or (joined laid (if same_seat player seat then of_act laid_by what else no_tiles)) k 0
     + get_or (if same_seat player seat && throws_unknown what then no_tiles else joined thrown (if same_seat player seat then of_act thrown_by what else no_tiles)) k 0
 epoch_step seat player what earlier gone laid thrown k below e = by (same_seat player seat) what
   where
     by : (own : Bool) (what : Act)
         → get_or (if own && throws_unknown what then laid else earlier) k 0
-        + get_or (if own && throws_unknown what then no_tiles else joined gone (if own then of_act left_by what else no_tiles)) k 0
+        + get_or (if own && throws_unknown what then no_tiles else joined gone (if own then of_act remaining_by what else no_tiles)) k 0
         ≡ get_or (joined laid (if own then of_act laid_by what else no_tiles)) k 0
         + get_or (if own && throws_unknown what then no_tiles else joined thrown (if own then of_act thrown_by what else no_tiles)) k 0
     by false what = even_stays earlier gone laid thrown k below e

@@ -13,13 +13,13 @@ use Rattle.deal_steps.specs.declared.steps.Step.{Step}
 use Rattle.deal_steps.specs.declared.faults.DealBound.{DealBound}
 use Rattle.deal_steps.specs.declared.faults.DealBound.TheVariants as fault
 use Rattle.deal_steps.specs.Piles.{kinds, joined, without, greater}
-use Rattle.deal_steps.specs.Steps.{laid_in, thrown_in, left_in, ends_epoch, needed, size_of}
+use Rattle.deal_steps.specs.Steps.{laid_in, thrown_in, remaining_in, ends_epoch, needed, size_of}
 
 -- the tiles that left a player's rack in the present epoch, by plays that stand and by exchanges of known tiles
 abbrev pub gone : Seat → (past : List Step) → List ℕ
 gone seat [] = no_tiles
 gone seat (s ∷ past) =
-    if ends_epoch seat s then no_tiles else joined (gone seat past) (left_in seat s)
+    if ends_epoch seat s then no_tiles else joined (gone seat past) (remaining_in seat s)
 
 -- what a moment shows, plus what left the rack before it
 abbrev pub raised : (gone low : List ℕ) → Option (List ℕ) → List ℕ

@@ -6,7 +6,7 @@ use Rattle.gcg_read.specs.declared.events.Seat.{Seat}
 use Rattle.deal_steps.specs.declared.deals.Held.{Held}
 use Rattle.deal_steps.specs.declared.steps.Step.{Step}
 use Rattle.deal_steps.specs.Piles.{joined}
-use Rattle.deal_steps.specs.Steps.{left_in, ends_epoch, needed}
+use Rattle.deal_steps.specs.Steps.{remaining_in, ends_epoch, needed}
 use Rattle.deal_steps.specs.Fitting.{Fits}
 use Rattle.deal_steps.specs.Bounds.{gone, low, first_bound}
 use Rattle.deal_steps.specs.Runs.{IsRun}
@@ -34,7 +34,7 @@ pub record Shows (seat : Seat) (past : List Step) (shown : List ℕ) : Type 0 wh
 abbrev pub GoneIsSum : Type 0
 GoneIsSum =
     (seat : Seat) (past : List Step) (k : ℕ) → k < 27
-    → slice_index (gone seat past) k ≡ sum_by (λ s. slice_index (left_in seat s) k) (since seat past)
+    → slice_index (gone seat past) k ≡ sum_by (λ s. slice_index (remaining_in seat s) k) (since seat past)
 
 -- for each kind, no moment of the present epoch shows more
 abbrev pub LowIsMost : Type 0

@@ -29,10 +29,10 @@ thrown_by (motion.Throws tiles) = tiles
 thrown_by other = no_tiles
 
 -- the known tiles that leave a rack for good: those of a play that stands, and of an exchange
-abbrev pub left_by : Motion → List ℕ
-left_by (motion.Lays used drawn) = used
-left_by (motion.Throws tiles) = tiles
-left_by other = no_tiles
+abbrev pub remaining_by : Motion → List ℕ
+remaining_by (motion.Lays used drawn) = used
+remaining_by (motion.Throws tiles) = tiles
+remaining_by other = no_tiles
 
 -- whether a turn is an exchange
 abbrev pub swaps_by : Motion → Bool
@@ -75,8 +75,8 @@ laid_in seat s = if is_by seat s then of_act laid_by s.act else no_tiles
 abbrev pub thrown_in : Seat → Step → List ℕ
 thrown_in seat s = if is_by seat s then of_act thrown_by s.act else no_tiles
 
-abbrev pub left_in : Seat → Step → List ℕ
-left_in seat s = if is_by seat s then of_act left_by s.act else no_tiles
+abbrev pub remaining_in : Seat → Step → List ℕ
+remaining_in seat s = if is_by seat s then of_act remaining_by s.act else no_tiles
 
 -- a player's epoch ends with each exchange of unknown tiles by that player
 abbrev pub ends_epoch : Seat → Step → Bool

@@ -9,7 +9,7 @@ use crate::steps::Step;
 use ref_tiles::Rules;
 
 /// What is known about the racks after the steps of a game, or the first bound that they exceed.
-fn known_behind(rules: &Rules, steps: &[Step]) -> Result<Known, DealBound>
+fn known_after(rules: &Rules, steps: &[Step]) -> Result<Known, DealBound>
     ensures fault { IfErr result (λ fault. first_bound rules.now steps.now ≡ Some fault) }
     ensures none { OnOk result (first_bound rules.now steps.now ≡ None) }
     ensures known { IfOk result (IsKnown (reverse steps.now)) }
@@ -31,7 +31,7 @@ fn known_behind(rules: &Rules, steps: &[Step]) -> Result<Known, DealBound>
 pub fn first_bound(rules: &Rules, steps: &[Step]) -> Option<DealBound>
     ensures { result ≡ first_bound rules.now steps.now }
 {
-    known_behind(rules, steps).err()
+    known_after(rules, steps).err()
 }
 
 /// What the steps of a game show about the racks at one of them, by its place from 0: what each player must have on the rack, and
@@ -45,7 +45,7 @@ pub fn shown_at(rules: &Rules, steps: &[Step], place: usize) -> Option<Known>
     if place >= steps.len() {
         return None;
     }
-    let Ok(mut known) = known_behind(rules, &steps[..place]) else {
+    let Ok(mut known) = known_after(rules, &steps[..place]) else {
         return None;
     };
     known.show(&steps[place]);

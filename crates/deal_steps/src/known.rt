@@ -157,7 +157,7 @@ impl Known {
 
     /// Takes a step: the bound that it exceeds, or what is known after it.
     pub fn take(&mut self, rules: &Rules, step: &Step) -> Option<DealBound>
-        ensures told { (past : List Step) → IsKnown past self.old → result ≡ bound_at rules.now step.now past }
+        ensures reported { (past : List Step) → IsKnown past self.old → result ≡ bound_at rules.now step.now past }
         ensures known { (past : List Step) → IsKnown past self.old → result ≡ None → IsKnown (step.now ∷ past) self.new }
     {
         rules.counts.law_of_numbers();

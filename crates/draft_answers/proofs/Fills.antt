@@ -4,10 +4,10 @@ use Rattle.std.proofs.lemmas.List.{append-nil, append_assoc, drop_all}
 use Rattle.std.proofs.lemmas.Option.{same_Some}
 use Rattle.gcg_read.specs.declared.events.Event.{Event}
 use Rattle.gcg_numbers.specs.Laws.{IsOther, AreOther}
-use Rattle.game_sheets.proofs.Numbers.{same_event}
-use Rattle.game_sheets.specs.Corrections.{is_given, IsRenumbered, AreRenumbered, HasPoints, HavePoints}
-use Rattle.game_rows.specs.declared.numbers.Numbers.{Numbers}
-use Rattle.game_rows.specs.Numbers.{numbers_in, with_numbers, renumbered}
+use Rattle.game_corrections.proofs.Numbers.{same_event}
+use Rattle.game_corrections.specs.Corrections.{is_given, IsRenumbered, AreRenumbered, HasPoints, HavePoints}
+use Rattle.game_walk.specs.declared.numbers.Numbers.{Numbers}
+use Rattle.game_walk.specs.Numbers.{numbers_in, with_numbers, renumbered}
 use Rattle.gcg_drafts.specs.declared.missing.Missing.{Missing}
 use Rattle.gcg_drafts.specs.declared.missing.Missing.TheVariants as missing
 use Rattle.draft_answers.specs.Filling.{filled_by, said, filled, filled_events}

@@ -13,12 +13,12 @@ use Rattle.game_turns.specs.Seats.{side_of}
 use Rattle.gcg_read.specs.declared.records.Record.{Record}
 use Rattle.gcg_read.specs.Records.{record_of}
 use Rattle.game_turns.specs.Machines.{state_of}
-use Rattle.game_rows.specs.declared.rows.Row.{Row}
-use Rattle.game_rows.specs.declared.walking.Walk.{Walk}
-use Rattle.game_rows.specs.declared.refusals.Stop.{Stop}
-use Rattle.game_rows.specs.Refusals.{refusal_of, EndsAt}
-use Rattle.game_rows.specs.Walks.{IsWalk}
-use Rattle.game_rows.proofs.Steps.{walk_renumbered, behind_row}
+use Rattle.game_walk.specs.declared.rows.Row.{Row}
+use Rattle.game_walk.specs.declared.walking.Walk.{Walk}
+use Rattle.game_walk.specs.declared.refusals.Stop.{Stop}
+use Rattle.game_walk.specs.Refusals.{refusal_of, EndsAt}
+use Rattle.game_walk.specs.Walks.{IsWalk}
+use Rattle.game_walk.proofs.Steps.{walk_renumbered, after_row}
 use Rattle.gcg_drafts.specs.Texts.{completed_text}
 use Rattle.draft_answers.specs.declared.next.DraftNext.{DraftNext}
 use Rattle.draft_answers.specs.Filled.{IsRighted}
@@ -76,32 +76,32 @@ after_other rules events place e is turn =
 -- whether the event at a place is a turn
 pub turn_is : (rules : Rules) (events : List Event) (place : ℕ) (e : Event) (withdrawn : Bool) (out : Option Seat) (turn : Bool) → slice_get events place ≡ Some e
     → withdrawn ≡ withdraws (slice_get events (place + 1)) → out ≡ (tally_at rules events place).out → turn ≡ is_turn withdrawn out e.kind → turn ≡ turn_of rules events place (slice_get events place)
-turn_is rules events place e withdrawn out turn there of_next of_out told =
-    told ∙ ap (λ (w : Bool). is_turn w out e.kind) of_next ∙ ap (λ (o : Option Seat). is_turn (withdraws (slice_get events (place + 1))) o e.kind) of_out
+turn_is rules events place e withdrawn out turn there of_next of_out reported =
+    reported ∙ ap (λ (w : Bool). is_turn w out e.kind) of_next ∙ ap (λ (o : Option Seat). is_turn (withdraws (slice_get events (place + 1))) o e.kind) of_out
     ∙ sym (ap (turn_of rules events place) there)
 
 -- the mover at a place, if the event before another one is a turn, and the mover is the same there
 pub turn_found : (rules : Rules) (events : List Event) (place end : ℕ) (e : Event) (turn : Bool) (next : Seat) → 0 < end → slice_get events (end - 1) ≡ Some e
     → turn ≡ turn_of rules events (end - 1) (slice_get events (end - 1)) → turn ≡ true → next ≡ other_seat e.player → (tally_at rules events place).mover ≡ (tally_at rules events end).mover
     → Some next ≡ (tally_at rules events place).mover
-turn_found rules events place end e turn next some there told stands of_next so_far =
+turn_found rules events place end e turn next some there reported stands of_next so_far =
     let step : end - 1 + 1 ≡ end = omega (arith, some) in
-    let one : turn_of rules events (end - 1) (Some e) ≡ true = sym (ap (turn_of rules events (end - 1)) there) ∙ sym told ∙ stands in
+    let one : turn_of rules events (end - 1) (Some e) ≡ true = sym (ap (turn_of rules events (end - 1)) there) ∙ sym reported ∙ stands in
     ap Some of_next ∙ sym (after_turn rules events (end - 1) e there one) ∙ ap (λ (n : ℕ). (tally_at rules events n).mover) step ∙ sym so_far
 
 no_turn_by : (rules : Rules) (events : List Event) (place end : ℕ) (turn : Bool) (o : Option Event) → 0 < end → end - 1 < length events → slice_get events (end - 1) ≡ o
     → turn ≡ turn_of rules events (end - 1) (slice_get events (end - 1)) → turn ≡ false → (tally_at rules events place).mover ≡ (tally_at rules events end).mover
     → (tally_at rules events place).mover ≡ (tally_at rules events (end - 1)).mover
-no_turn_by rules events place end turn None some within there told none so_far = absurd (not_past events (end - 1) within there)
-no_turn_by rules events place end turn (Some e) some within there told none so_far =
+no_turn_by rules events place end turn None some within there reported none so_far = absurd (not_past events (end - 1) within there)
+no_turn_by rules events place end turn (Some e) some within there reported none so_far =
     let step : end ≡ end - 1 + 1 = omega (arith, some) in
-    let one : turn_of rules events (end - 1) (Some e) ≡ false = sym (ap (turn_of rules events (end - 1)) there) ∙ sym told ∙ none in
+    let one : turn_of rules events (end - 1) (Some e) ≡ false = sym (ap (turn_of rules events (end - 1)) there) ∙ sym reported ∙ none in
     so_far ∙ ap (λ (n : ℕ). (tally_at rules events n).mover) step ∙ after_other rules events (end - 1) e there one
 
 -- the same if it is not one
 pub no_turn : (rules : Rules) (events : List Event) (place end : ℕ) (turn : Bool) → 0 < end → end - 1 < length events → turn ≡ turn_of rules events (end - 1) (slice_get events (end - 1))
     → turn ≡ false → (tally_at rules events place).mover ≡ (tally_at rules events end).mover → (tally_at rules events place).mover ≡ (tally_at rules events (end - 1)).mover
-no_turn rules events place end turn some within told none so_far = no_turn_by rules events place end turn (slice_get events (end - 1)) some within refl told none so_far
+no_turn rules events place end turn some within reported none so_far = no_turn_by rules events place end turn (slice_get events (end - 1)) some within refl reported none so_far
 
 -- what there is in a state, by what a machine has
 pub next_by : (s at : State) (n : NextLine) → at ≡ s → n.turn ≡ s.mover → n.out ≡ at.out → n.complete ≡ at.complete → n.bag ≡ at.bag → IsNextSide (side_of at.sides First) n.first
@@ -160,5 +160,5 @@ pub at_start : (rules : Rules) (list : List (List ℕ)) (written right : List Ev
 at_start rules list written right walk is none = is.start ∙ ap (tally_at rules right) (sym none)
 
 pub after_rows : (rules : Rules) (list : List (List ℕ)) (written right : List Event) (walk : Walk) (last : ℕ) (row : Row) → IsWalk rules list written right walk
-    → slice_get walk.rows.items last ≡ Some row → last + 1 ≡ length walk.rows.items → state_of row.behind ≡ tally_at rules right (length walk.rows.items)
-after_rows rules list written right walk last row is there next = behind_row rules list written right walk last row is there ∙ ap (tally_at rules right) next
+    → slice_get walk.rows.items last ≡ Some row → last + 1 ≡ length walk.rows.items → state_of row.following ≡ tally_at rules right (length walk.rows.items)
+after_rows rules list written right walk last row is there next = after_row rules list written right walk last row is there ∙ ap (tally_at rules right) next

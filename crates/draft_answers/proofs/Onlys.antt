@@ -10,13 +10,13 @@ use Rattle.gcg_read.specs.Records.{record_of, record_from, no_record, most_bytes
 use Rattle.gcg_write.specs.Rounds.{IsReadWithPoints}
 use Rattle.gcg_write.proofs.Inversions.{passed, ok_same}
 use Rattle.gcg_numbers.specs.Laws.{IsReadWithNumbers}
-use Rattle.game_sheets.specs.Auditing.{IsAudited}
-use Rattle.game_sheets.specs.Corrections.{HavePoints, IsCorrection}
-use Rattle.game_sheets.specs.Laws.{OneCorrection}
-use Rattle.game_sheets.specs.declared.wrong_numbers.WrongNumber.{WrongNumber}
-use Rattle.game_rows.specs.declared.refusals.Refusal.{Refusal}
-use Rattle.audit_lines.specs.Answers.{IsAuditAnswer}
-use Rattle.audit_lines.specs.Corrected.{IsReadBack}
+use Rattle.game_corrections.specs.Auditing.{IsAudited}
+use Rattle.game_corrections.specs.Corrections.{HavePoints, IsCorrection}
+use Rattle.game_corrections.specs.Laws.{OneCorrection}
+use Rattle.game_corrections.specs.declared.wrong_numbers.WrongNumber.{WrongNumber}
+use Rattle.game_walk.specs.declared.refusals.Refusal.{Refusal}
+use Rattle.sheet_audit.specs.Answers.{IsAuditAnswer}
+use Rattle.sheet_audit.specs.Corrected.{IsReadBack}
 use Rattle.gcg_drafts.specs.Texts.{completed_text}
 use Rattle.draft_answers.specs.declared.filled.FilledDraft.{FilledDraft}
 use Rattle.draft_answers.specs.Filling.{has_missing}

@@ -8,8 +8,8 @@ use Rattle.gcg_read.specs.Records.{record_of, most_bytes}
 use Rattle.gcg_write.specs.Rounds.{IsReadWithPoints}
 use Rattle.gcg_numbers.specs.Laws.{IsReadWithNumbers}
 use Rattle.gcg_numbers.specs.Numbers.{text_with}
-use Rattle.game_sheets.specs.Corrections.{AreRenumbered, HavePoints}
-use Rattle.game_rows.specs.declared.refusals.Refusal.{Refusal}
+use Rattle.game_corrections.specs.Corrections.{AreRenumbered, HavePoints}
+use Rattle.game_walk.specs.declared.refusals.Refusal.{Refusal}
 use Rattle.gcg_drafts.specs.declared.missing.Missing.{Missing}
 use Rattle.gcg_drafts.specs.Texts.{completed_text}
 use Rattle.draft_answers.specs.Filling.{filled_events, has_missing, sheet_of}

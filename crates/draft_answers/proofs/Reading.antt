@@ -1,10 +1,10 @@
 -- What is read of a sheet in memory.
 use Rattle.std.proofs.Common.{◌≡◌, ℕ, List, Result, Ok, Err, IfOk, subst}
-use Rattle.devices.specs.Devices.{Device}
-use Rattle.devices.specs.Inputs.{IsInput}
+use Rattle.io_devices.specs.Devices.{Device}
+use Rattle.io_devices.specs.Inputs.{IsInput}
 use Rattle.gcg_read.specs.Records.{most_bytes}
-use Rattle.call_stages.specs.declared.faults.RunFault.{RunFault}
-use Rattle.call_stages.specs.Stages.{IsRead}
+use Rattle.engine_stages.specs.declared.faults.RunFault.{RunFault}
+use Rattle.engine_stages.specs.Stages.{IsRead}
 use Rattle.draft_answers.specs.Given.{device_of, read_of}
 
 -- the text that is read is the front of the bytes

@@ -2,14 +2,14 @@
 use Rattle.std.proofs.Common.{◌≡◌, ℕ, List, map, Option, Some, None, sym, ap, subst, ◌∙◌}
 use Rattle.ref_tiles.specs.declared.rulebook.Rules.{Rules}
 use Rattle.gcg_read.specs.declared.events.Event.{Event}
-use Rattle.game_sheets.specs.Corrections.{AreRenumbered, KeepPoints}
-use Rattle.game_rows.specs.declared.numbers.Numbers.{Numbers}
-use Rattle.game_rows.specs.declared.refusals.Refusal.{Refusal}
-use Rattle.game_rows.specs.declared.refusals.Stop.{Stop}
-use Rattle.game_rows.specs.declared.walking.Walk.{Walk}
-use Rattle.game_rows.specs.Numbers.{numbers_in, renumbered}
-use Rattle.game_rows.specs.Refusals.{refusal_of, EndsAt}
-use Rattle.game_rows.specs.Walks.{IsWalk}
+use Rattle.game_corrections.specs.Corrections.{AreRenumbered, KeepPoints}
+use Rattle.game_walk.specs.declared.numbers.Numbers.{Numbers}
+use Rattle.game_walk.specs.declared.refusals.Refusal.{Refusal}
+use Rattle.game_walk.specs.declared.refusals.Stop.{Stop}
+use Rattle.game_walk.specs.declared.walking.Walk.{Walk}
+use Rattle.game_walk.specs.Numbers.{numbers_in, renumbered}
+use Rattle.game_walk.specs.Refusals.{refusal_of, EndsAt}
+use Rattle.game_walk.specs.Walks.{IsWalk}
 use Rattle.gcg_drafts.specs.declared.missing.Missing.{Missing}
 use Rattle.draft_answers.specs.Filling.{filled, filled_events}
 use Rattle.draft_answers.specs.Filled.{IsRighted, AreFilled}

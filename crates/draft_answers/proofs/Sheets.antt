@@ -10,23 +10,23 @@ use Rattle.gcg_read.specs.Records.{record_of, most_bytes}
 use Rattle.gcg_write.specs.Rounds.{IsReadWithPoints}
 use Rattle.gcg_numbers.specs.Laws.{IsReadWithNumbers}
 use Rattle.gcg_numbers.specs.Numbers.{text_with}
-use Rattle.call_stages.specs.declared.decisions.Decision.{Decision}
-use Rattle.call_stages.specs.Stages.{IsRecordOf}
-use Rattle.game_rows.specs.declared.numbers.Numbers.{Numbers}
-use Rattle.game_rows.specs.declared.refusals.Refusal.{Refusal}
-use Rattle.game_rows.specs.declared.walking.Walk.{Walk}
-use Rattle.game_rows.specs.Numbers.{numbers_in}
-use Rattle.game_rows.specs.Walks.{IsWalk}
-use Rattle.game_rows.proofs.Steps.{walk_renumbered}
-use Rattle.audit_lines.specs.declared.answers.AuditAnswer.{AuditAnswer}
-use Rattle.audit_lines.specs.Answers.{IsAuditAnswer, IsAuditAnswerOf}
+use Rattle.engine_stages.specs.declared.decisions.Decision.{Decision}
+use Rattle.engine_stages.specs.Stages.{IsRecordOf}
+use Rattle.game_walk.specs.declared.numbers.Numbers.{Numbers}
+use Rattle.game_walk.specs.declared.refusals.Refusal.{Refusal}
+use Rattle.game_walk.specs.declared.walking.Walk.{Walk}
+use Rattle.game_walk.specs.Numbers.{numbers_in}
+use Rattle.game_walk.specs.Walks.{IsWalk}
+use Rattle.game_walk.proofs.Steps.{walk_renumbered}
+use Rattle.sheet_audit.specs.declared.answers.AuditAnswer.{AuditAnswer}
+use Rattle.sheet_audit.specs.Answers.{IsAuditAnswer, IsAuditAnswerOf}
 use Rattle.gcg_drafts.specs.declared.missing.Missing.{Missing}
 use Rattle.gcg_drafts.specs.declared.drafts.Draft.{Draft}
 use Rattle.gcg_drafts.specs.Drafts.{IsDraft, IsFaultOf}
 use Rattle.gcg_drafts.specs.Texts.{completed_text}
 use Rattle.draft_answers.specs.declared.faults.DraftFault.{DraftFault}
 use Rattle.draft_answers.specs.declared.filled.FilledDraft.{FilledDraft}
-use Rattle.draft_answers.specs.Faults.{told_fault}
+use Rattle.draft_answers.specs.Faults.{reported_fault}
 use Rattle.draft_answers.specs.Filling.{filled_events, has_missing, sheet_of}
 use Rattle.draft_answers.specs.Filled.{AreFilled, IsAnswerOf, IsCutAnswer, IsDrafted, IsFilled, IsNoDraft, IsFillOf, too_long}
 use Rattle.draft_answers.specs.Given.{read_of}
@@ -84,26 +84,26 @@ pub found : (rules : Rules) (list : List (List ℕ)) (text : List ℕ) (f : Fill
     → lacking ≡ has_missing f.lacks.items
     → ((r : Rules) (l : List (List ℕ)) (s : List ℕ) → IsAuditAnswer r l s answer → IsAnswerOf f.stopped lacking r l s f.answer)
     → IsFillOf rules list text (Ok f)
-found rules list text f sheet lacking answer is short audited same told =
+found rules list text f sheet lacking answer is short audited same reported =
     let whole : read_of sheet ≡ sheet = take_all (most_bytes + 1) sheet (omega (arith, short)) in
     record {
       sheet = sheet;
       drafted = is;
-      answer = subst (λ b. IsAnswerOf f.stopped b rules list sheet f.answer) same (told rules list sheet (subst (λ s. IsAuditAnswer rules list s answer) whole audited));
+      answer = subst (λ b. IsAnswerOf f.stopped b rules list sheet f.answer) same (reported rules list sheet (subst (λ s. IsAuditAnswer rules list s answer) whole audited));
     }
 
-told_by : (stopped : Option Refusal) (lacking : Bool) (refusal : Refusal) (answer told : AuditAnswer) → stopped ≡ Some refusal → lacking ≡ true → IsCutAnswer refusal.line answer told
-    → (rules : Rules) (list : List (List ℕ)) (sheet : List ℕ) → IsAuditAnswer rules list sheet answer → IsAnswerOf stopped lacking rules list sheet told
-told_by None lacking refusal answer told some lacks cut rules list sheet is = absurd cc
-told_by (Some other) false refusal answer told some lacks cut rules list sheet is = absurd cc
-told_by (Some other) true refusal answer told some lacks cut rules list sheet is =
-    record { whole = answer; is = is; cut = subst (λ (r : Refusal). IsCutAnswer r.line answer told) (sym (same_Some other refusal some)) cut }
+reported_by : (stopped : Option Refusal) (lacking : Bool) (refusal : Refusal) (answer reported : AuditAnswer) → stopped ≡ Some refusal → lacking ≡ true → IsCutAnswer refusal.line answer reported
+    → (rules : Rules) (list : List (List ℕ)) (sheet : List ℕ) → IsAuditAnswer rules list sheet answer → IsAnswerOf stopped lacking rules list sheet reported
+reported_by None lacking refusal answer reported some lacks cut rules list sheet is = absurd cc
+reported_by (Some other) false refusal answer reported some lacks cut rules list sheet is = absurd cc
+reported_by (Some other) true refusal answer reported some lacks cut rules list sheet is =
+    record { whole = answer; is = is; cut = subst (λ (r : Refusal). IsCutAnswer r.line answer reported) (sym (same_Some other refusal some)) cut }
 
 -- what is told of an answer if a line is refused and a number is missing
 pub if_cut : {E : Type 0} (stopped : Option Refusal) (lacking : Bool) (refusal : Refusal) (answer : AuditAnswer) (r : Result AuditAnswer E) → stopped ≡ Some refusal → lacking ≡ true
     → IfOk r (IsCutAnswer refusal.line answer)
-    → IfOk r (λ told. (rules : Rules) (list : List (List ℕ)) (sheet : List ℕ) → IsAuditAnswer rules list sheet answer → IsAnswerOf stopped lacking rules list sheet told)
-if_cut stopped lacking refusal answer (Ok told) some lacks cut = told_by stopped lacking refusal answer told some lacks cut
+    → IfOk r (λ reported. (rules : Rules) (list : List (List ℕ)) (sheet : List ℕ) → IsAuditAnswer rules list sheet answer → IsAnswerOf stopped lacking rules list sheet reported)
+if_cut stopped lacking refusal answer (Ok reported) some lacks cut = reported_by stopped lacking refusal answer reported some lacks cut
 if_cut stopped lacking refusal answer (Err e) some lacks cut = tt
 
 -- of the sheet in memory: it is too long
@@ -133,12 +133,12 @@ pub if_answered : (rules : Rules) (list : List (List ℕ)) (text : List ℕ) (f 
     → slice ≡ sheet → length slice ≤ most_bytes → given ≡ Ok answer → IsAuditAnswerOf rules list (read_of slice) given → lacking ≡ has_missing f.lacks.items
     → ((r : Rules) (l : List (List ℕ)) (s : List ℕ) → IsAuditAnswer r l s answer → IsAnswerOf f.stopped lacking r l s f.answer)
     → IsDrafted rules list text f.lacks.items f.stopped sheet → IsFilled rules list text f
-if_answered rules list text f sheet slice lacking given answer same short ok is lacks told drafted =
+if_answered rules list text f sheet slice lacking given answer same short ok is lacks reported drafted =
     found rules list text f sheet lacking answer drafted (subst (λ (s : List ℕ). length s ≤ most_bytes) same short)
-    (subst (λ (s : List ℕ). IsAuditAnswer rules list (read_of s) answer) same (answered rules list (read_of slice) given answer ok is)) lacks told
+    (subst (λ (s : List ℕ). IsAuditAnswer rules list (read_of s) answer) same (answered rules list (read_of slice) given answer ok is)) lacks reported
 
 -- ---- a text that is no draft
 
-pub no_draft : (text : List ℕ) (fault : ReadFault) (f : DraftFault) → IsFaultOf text fault → (fault.why ≡ why.NoMemory → ⊥) → f ≡ told_fault text fault → IsNoDraft text f
-no_draft text fault f (inl none) known told = absurd (known (ap (λ (w : ReadFault). w.why) none))
-no_draft text fault f (inr fails) known told = record { fault = fault; fails = fails; is = told }
+pub no_draft : (text : List ℕ) (fault : ReadFault) (f : DraftFault) → IsFaultOf text fault → (fault.why ≡ why.NoMemory → ⊥) → f ≡ reported_fault text fault → IsNoDraft text f
+no_draft text fault f (inl none) known reported = absurd (known (ap (λ (w : ReadFault). w.why) none))
+no_draft text fault f (inr fails) known reported = record { fault = fault; fails = fails; is = reported }

@@ -2,8 +2,8 @@
 use Rattle.std.proofs.Common.{◌≡◌, ℕ, Bool, true, false, List, [], ◌∷◌, map, Option, Some, None, refl, ap, subst, ◌∙◌}
 use Rattle.ref_tiles.specs.declared.rulebook.Rules.{Rules}
 use Rattle.gcg_read.specs.declared.events.Event.{Event}
-use Rattle.game_rows.specs.declared.refusals.Refusal.{Refusal}
-use Rattle.audit_lines.specs.Answers.{IsAuditAnswer}
+use Rattle.game_walk.specs.declared.refusals.Refusal.{Refusal}
+use Rattle.sheet_audit.specs.Answers.{IsAuditAnswer}
 use Rattle.gcg_drafts.specs.declared.missing.Missing.TheVariants as missing
 use Rattle.gcg_drafts.proofs.Own.{own_draft}
 use Rattle.draft_answers.specs.declared.filled.FilledDraft.{FilledDraft}

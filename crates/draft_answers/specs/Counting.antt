@@ -2,7 +2,7 @@
 use Rattle.std.specs.Prelude.{ℕ, Bool, true, false, List, take, Option, Some, None}
 use Rattle.gcg_read.specs.declared.events.Event.{Event}
 use Rattle.game_board.specs.Places.{place_of_line}
-use Rattle.game_rows.specs.declared.refusals.Refusal.{Refusal}
+use Rattle.game_walk.specs.declared.refusals.Refusal.{Refusal}
 use Rattle.gcg_drafts.specs.declared.missing.Missing.{Missing}
 use Rattle.gcg_drafts.specs.declared.missing.Missing.TheVariants as missing
 

@@ -3,7 +3,7 @@ use Rattle.std.specs.Prelude.{ℕ, Bool, true, false, List, Option, Some, None, 
 use Rattle.gcg_read.specs.declared.faults.Why.{Why}
 use Rattle.gcg_read.specs.declared.faults.Why.TheVariants as why
 use Rattle.gcg_read.specs.declared.faults.ReadFault.{ReadFault}
-use Rattle.game_facts.specs.Lines.{line_of}
+use Rattle.explain_clues.specs.Lines.{line_of}
 use Rattle.gcg_drafts.specs.declared.amiss.Amiss.{Amiss}
 use Rattle.gcg_drafts.specs.Drafts.{amiss_on}
 use Rattle.draft_answers.specs.declared.faults.DraftFault.{DraftFault}
@@ -36,5 +36,5 @@ named fault (Some amiss) = record { fault = record { line = fault.line; why = wh
 
 -- The first fault of the record that a draft would be. If its line lacks a field or has too many, it is named so, whatever else is wrong with its
 -- fields.
-abbrev pub told_fault : (text : List ℕ) → ReadFault → DraftFault
-told_fault text fault = named fault (amiss_at text fault)
+abbrev pub reported_fault : (text : List ℕ) → ReadFault → DraftFault
+reported_fault text fault = named fault (amiss_at text fault)

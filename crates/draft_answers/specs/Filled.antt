@@ -7,20 +7,20 @@ use Rattle.gcg_read.specs.declared.faults.Why.TheVariants as why
 use Rattle.gcg_read.specs.declared.faults.ReadFault.{ReadFault}
 use Rattle.gcg_read.specs.declared.records.Record.{Record}
 use Rattle.gcg_read.specs.Records.{record_of, most_bytes}
-use Rattle.game_sheets.specs.Corrections.{IsCorrection, KeepPoints, StopsAt}
-use Rattle.game_sheets.specs.declared.wrong_numbers.WrongNumber.{WrongNumber}
-use Rattle.game_sheets.specs.declared.wrong_numbers.WrongNumber.TheVariants as found
-use Rattle.game_rows.specs.declared.refusals.Refusal.{Refusal}
+use Rattle.game_corrections.specs.Corrections.{IsCorrection, KeepPoints, StopsAt}
+use Rattle.game_corrections.specs.declared.wrong_numbers.WrongNumber.{WrongNumber}
+use Rattle.game_corrections.specs.declared.wrong_numbers.WrongNumber.TheVariants as found
+use Rattle.game_walk.specs.declared.refusals.Refusal.{Refusal}
 use Rattle.game_case.specs.declared.audits.Audit.{Audit}
-use Rattle.audit_lines.specs.declared.answers.AuditAnswer.{AuditAnswer}
-use Rattle.audit_lines.specs.declared.told.ToldNumber.{ToldNumber}
-use Rattle.audit_lines.specs.declared.told.ToldNumber.TheVariants as shown
-use Rattle.audit_lines.specs.Answers.{IsAuditAnswer}
+use Rattle.sheet_audit.specs.declared.answers.AuditAnswer.{AuditAnswer}
+use Rattle.sheet_audit.specs.declared.reported.ReportedNumber.{ReportedNumber}
+use Rattle.sheet_audit.specs.declared.reported.ReportedNumber.TheVariants as shown
+use Rattle.sheet_audit.specs.Answers.{IsAuditAnswer}
 use Rattle.gcg_drafts.specs.declared.missing.Missing.{Missing}
 use Rattle.gcg_drafts.specs.Texts.{completed_text, missing_in}
 use Rattle.draft_answers.specs.declared.faults.DraftFault.{DraftFault}
 use Rattle.draft_answers.specs.declared.filled.FilledDraft.{FilledDraft}
-use Rattle.draft_answers.specs.Faults.{told_fault}
+use Rattle.draft_answers.specs.Faults.{reported_fault}
 use Rattle.draft_answers.specs.Filling.{has_missing, filled_events, sheet_of}
 
 -- ---- the correction
@@ -45,10 +45,10 @@ is_before line (found.Score own written right) = nat_lt own line
 is_before line (found.Sum own written sum right) = nat_lt own line
 is_before line (found.Total player written right) = false
 
-abbrev pub is_told_before : (line : ℕ) → ToldNumber → Bool
-is_told_before line (shown.Score place own player written right) = nat_lt own line
-is_told_before line (shown.Sum place own player written sum right) = nat_lt own line
-is_told_before line (shown.Total player written right) = false
+abbrev pub is_reported_before : (line : ℕ) → ReportedNumber → Bool
+is_reported_before line (shown.Score place own player written right) = nat_lt own line
+is_reported_before line (shown.Sum place own player written sum right) = nat_lt own line
+is_reported_before line (shown.Total player written right) = false
 
 -- the same audit, of which only the wrong numbers before a line are told
 pub record IsCutAudit (line : ℕ) (whole cut : Audit) : Type 0 where
@@ -60,7 +60,7 @@ pub record IsCutAudit (line : ℕ) (whole cut : Audit) : Type 0 where
 
 pub record IsCutAnswer (line : ℕ) (whole cut : AuditAnswer) : Type 0 where
   pub audit : IsCutAudit line whole.audit cut.audit
-  pub numbers : cut.numbers.items ≡ filter (is_told_before line) whole.numbers.items
+  pub numbers : cut.numbers.items ≡ filter (is_reported_before line) whole.numbers.items
   pub amount : cut.amount ≡ None
 
 -- an answer to an audit of a sheet, told up to a line
@@ -97,7 +97,7 @@ pub record IsFilled (rules : Rules) (list : List (List ℕ)) (text : List ℕ) (
 pub record IsNoDraft (text : List ℕ) (f : DraftFault) : Type 0 where
   pub fault : ReadFault
   pub fails : record_of (completed_text text) ≡ Err fault
-  pub is : f ≡ told_fault text fault
+  pub is : f ≡ reported_fault text fault
 
 -- the fault of a draft whose sheet is longer than a record may be
 abbrev pub too_long : DraftFault

@@ -3,8 +3,8 @@ use Rattle.std.specs.Prelude.{ℕ, Bool, List, [], ◌∷◌, map, Option, Some,
 use Rattle.std.specs.List.{list_any}
 use Rattle.gcg_read.specs.declared.events.Event.{Event}
 use Rattle.gcg_numbers.specs.Numbers.{text_with}
-use Rattle.game_rows.specs.declared.numbers.Numbers.{Numbers}
-use Rattle.game_rows.specs.Numbers.{numbers_in, renumbered}
+use Rattle.game_walk.specs.declared.numbers.Numbers.{Numbers}
+use Rattle.game_walk.specs.Numbers.{numbers_in, renumbered}
 use Rattle.gcg_drafts.specs.declared.missing.Missing.{Missing}
 use Rattle.gcg_drafts.specs.declared.missing.Missing.TheVariants as missing
 use Rattle.gcg_drafts.specs.Texts.{completed_text}

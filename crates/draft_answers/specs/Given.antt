@@ -1,6 +1,6 @@
 -- A sheet in memory, as an input.
 use Rattle.std.specs.Prelude.{ℕ, ◌+◌, List, take, Some}
-use Rattle.devices.specs.Devices.{Device}
+use Rattle.io_devices.specs.Devices.{Device}
 use Rattle.gcg_read.specs.Records.{most_bytes}
 
 -- bytes in memory, of which nothing was read yet and no read fails

@@ -3,7 +3,7 @@ use Rattle.std.specs.Prelude.{◌≡◌, ℕ, List, Ok}
 use Rattle.ref_tiles.specs.declared.rulebook.Rules.{Rules}
 use Rattle.gcg_read.specs.declared.records.Record.{Record}
 use Rattle.gcg_read.specs.Records.{record_of}
-use Rattle.audit_lines.specs.Answers.{IsAuditAnswer}
+use Rattle.sheet_audit.specs.Answers.{IsAuditAnswer}
 use Rattle.draft_answers.specs.declared.filled.FilledDraft.{FilledDraft}
 use Rattle.draft_answers.specs.Filled.{IsFilled}
 

@@ -8,7 +8,7 @@ use Rattle.gcg_read.specs.Records.{record_of}
 use Rattle.game_turns.specs.declared.sides.Side.{Side}
 use Rattle.game_turns.specs.Seats.{side_of}
 use Rattle.game_turns.specs.Tallies.{State, is_turn, withdraws, tally_at}
-use Rattle.game_rows.specs.declared.refusals.Refusal.{Refusal}
+use Rattle.game_walk.specs.declared.refusals.Refusal.{Refusal}
 use Rattle.gcg_drafts.specs.Texts.{completed_text}
 use Rattle.draft_answers.specs.declared.faults.DraftFault.{DraftFault}
 use Rattle.draft_answers.specs.declared.next.NextSide.{NextSide}

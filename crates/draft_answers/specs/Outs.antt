@@ -4,8 +4,8 @@ use Rattle.ref_tiles.specs.declared.rulebook.Rules.{Rules}
 use Rattle.gcg_read.specs.declared.events.Event.{Event}
 use Rattle.gcg_read.specs.declared.records.Record.{Record}
 use Rattle.gcg_read.specs.Records.{record_of, most_bytes}
-use Rattle.game_sheets.specs.Corrections.{IsCorrection}
-use Rattle.audit_lines.specs.Standing.{is_written}
+use Rattle.game_corrections.specs.Corrections.{IsCorrection}
+use Rattle.sheet_audit.specs.Standing.{is_written}
 use Rattle.gcg_drafts.specs.Texts.{completed_text}
 use Rattle.draft_answers.specs.declared.filled.FilledDraft.{FilledDraft}
 use Rattle.draft_answers.specs.Filled.{IsFilled}

@@ -4,7 +4,7 @@ ghost use Rattle.draft_answers.specs.Counting.{is_missing, is_both, lacks_before
 
 use crate::filled::FilledDraft;
 use game_board::place_of_line;
-use game_rows::Refusal;
+use game_walk::Refusal;
 use gcg_drafts::Missing;
 use gcg_read::Event;
 

@@ -1,11 +1,11 @@
 //! An answer to an audit, of which only what is before a line is told.
 ghost use Rattle.std.specs.Prelude.{◌≡◌, IfOk};
 ghost use Rattle.std.specs.List.{filter};
-ghost use Rattle.draft_answers.specs.Filled.{is_before, is_told_before, IsCutAudit, IsCutAnswer};
+ghost use Rattle.draft_answers.specs.Filled.{is_before, is_reported_before, IsCutAudit, IsCutAnswer};
 
-use audit_lines::{AuditAnswer, ToldNumber};
 use game_case::Audit;
-use game_sheets::WrongNumber;
+use game_corrections::WrongNumber;
+use sheet_audit::{AuditAnswer, ReportedNumber};
 use std::alloc::{AllocError, Global};
 
 /// Whether a wrong number is on a line before this one.
@@ -20,13 +20,13 @@ fn is_before(line: u32, number: &WrongNumber) -> bool
 }
 
 /// The same of one that is told with its event.
-fn is_told_before(line: u32, number: &ToldNumber) -> bool
-    ensures { result ≡ is_told_before line number.now }
+fn is_reported_before(line: u32, number: &ReportedNumber) -> bool
+    ensures { result ≡ is_reported_before line number.now }
 {
     match number {
-        ToldNumber::Score { line: own, .. } => *own < line,
-        ToldNumber::Sum { line: own, .. } => *own < line,
-        ToldNumber::Total { .. } => false,
+        ReportedNumber::Score { line: own, .. } => *own < line,
+        ReportedNumber::Sum { line: own, .. } => *own < line,
+        ReportedNumber::Total { .. } => false,
     }
 }
 
@@ -48,16 +48,16 @@ fn wrong_before(
 }
 
 /// Those that are told with their events.
-fn told_before(
+fn reported_before(
     alloc: Global,
     line: u32,
-    numbers: &[ToldNumber],
-) -> Result<Vec<ToldNumber>, AllocError>
-    ensures { IfOk result (λ kept. kept.items ≡ filter (is_told_before line) numbers.now) }
+    numbers: &[ReportedNumber],
+) -> Result<Vec<ReportedNumber>, AllocError>
+    ensures { IfOk result (λ kept. kept.items ≡ filter (is_reported_before line) numbers.now) }
 {
     let mut kept = Vec::new(alloc);
     for number in numbers {
-        if is_told_before(line, number) {
+        if is_reported_before(line, number) {
             kept.push(*number)?;
         }
     }
@@ -86,7 +86,7 @@ pub(crate) fn answer_before(
 ) -> Result<AuditAnswer, AllocError>
     ensures { IfOk result (IsCutAnswer line answer) }
 {
-    let numbers = told_before(alloc, line, answer.numbers.as_slice())?;
+    let numbers = reported_before(alloc, line, answer.numbers.as_slice())?;
     let audit = audit_before(alloc, line, answer.audit)?;
     Ok(AuditAnswer {
         audit,

@@ -1,8 +1,8 @@
 //! The fault of a text that is no draft.
 ghost use Rattle.std.specs.Prelude.{◌≡◌};
-ghost use Rattle.draft_answers.specs.Faults.{is_of_fields, amiss_at, told_fault};
+ghost use Rattle.draft_answers.specs.Faults.{is_of_fields, amiss_at, reported_fault};
 
-use game_facts::line_of;
+use explain_clues::line_of;
 use gcg_drafts::{Amiss, amiss_on};
 use gcg_read::{ReadFault, Why};
 
@@ -40,8 +40,8 @@ fn amiss_at(text: &[u8], fault: &ReadFault) -> Option<Amiss>
 }
 
 /// The fault of a draft, by that of the record that it would be.
-pub(crate) fn told_fault(text: &[u8], fault: ReadFault) -> DraftFault
-    ensures { result ≡ told_fault text.now fault }
+pub(crate) fn reported_fault(text: &[u8], fault: ReadFault) -> DraftFault
+    ensures { result ≡ reported_fault text.now fault }
 {
     match amiss_at(text, &fault) {
         None => DraftFault { fault, amiss: None },

@@ -5,24 +5,24 @@ ghost use Rattle.gcg_numbers.specs.Numbers.{text_with};
 ghost use Rattle.gcg_drafts.specs.Drafts.{IsDraft};
 ghost use Rattle.gcg_drafts.specs.Texts.{completed_text};
 ghost use Rattle.lex_check.specs.Pairs.{list_in};
-ghost use Rattle.audit_lines.specs.Answers.{IsAuditAnswer, IsAuditAnswerOf};
+ghost use Rattle.sheet_audit.specs.Answers.{IsAuditAnswer, IsAuditAnswerOf};
 ghost use Rattle.draft_answers.specs.Filling.{has_missing};
 ghost use Rattle.draft_answers.specs.Filled.{AreFilled, IsAnswerOf, IsDrafted, IsFillOf, too_long};
 ghost use Rattle.draft_answers.specs.Given.{read_of};
 
 use crate::cutting::answer_before;
-use crate::faults::{DraftFault, told_fault};
+use crate::faults::{DraftFault, reported_fault};
 use crate::filling::{filled, has_missing};
 use crate::given::GivenSheet;
-use audit_lines::{AuditAnswer, answer_audit};
-use call_stages::{Decision, RunFault};
-use game_rows::{Refusal, numbers_of, renumber, walk_and_correct};
+use engine_stages::{Decision, RunFault};
+use game_walk::{Refusal, numbers_of, renumber, walk_and_correct};
 use gcg_drafts::{Draft, Missing, read_draft};
 use gcg_numbers::{law_of_numbers, push_with_numbers};
 use gcg_read::{Event, Events, MAX_BYTES, ReadFault, Why};
 use gcg_write::law_of_other_points;
 use lex_check::Checked;
 use ref_tiles::Rules;
+use sheet_audit::{AuditAnswer, answer_audit};
 use std::alloc::{AllocError, Global};
 
 /// A draft that is filled.
@@ -136,13 +136,13 @@ fn audited(
 }
 
 /// What is told of what `audit` finds: if a line is refused and a number is missing, only the wrong numbers before that line.
-fn told_answer(
+fn reported_answer(
     alloc: Global,
     stopped: Option<Refusal>,
     lacking: bool,
     answer: AuditAnswer,
 ) -> Result<AuditAnswer, AllocError>
-    ensures { IfOk result (λ told. (rules : Rules) (list : List (List ℕ)) (sheet : List ℕ) → IsAuditAnswer rules list sheet answer → IsAnswerOf stopped lacking rules list sheet told) }
+    ensures { IfOk result (λ reported. (rules : Rules) (list : List (List ℕ)) (sheet : List ℕ) → IsAuditAnswer rules list sheet answer → IsAnswerOf stopped lacking rules list sheet reported) }
 {
     match stopped {
         Some(refusal) if lacking => answer_before(alloc, refusal.line, answer),
@@ -183,11 +183,11 @@ fn found_of(
         Err(_) => return Ok(Err(too_long())),
     };
     let lacking = has_missing(sheet.lacks.as_slice());
-    let told = told_answer(alloc, sheet.stopped, lacking, answer)?;
+    let reported = reported_answer(alloc, sheet.stopped, lacking, answer)?;
     Ok(Ok(FilledDraft {
         lacks: sheet.lacks,
         stopped: sheet.stopped,
-        answer: told,
+        answer: reported,
     }))
 }
 
@@ -213,7 +213,7 @@ pub fn fill_draft(
             if fault.why == Why::NoMemory {
                 return Err(AllocError);
             }
-            return Ok(Err(told_fault(text, fault)));
+            return Ok(Err(reported_fault(text, fault)));
         }
     };
     let sheet = sheet_of(alloc, rules, pair, draft)?;

@@ -4,7 +4,7 @@ ghost use Rattle.std.specs.Option.{option_copied};
 ghost use Rattle.draft_answers.specs.Filling.{filled_by, said, filled, has_missing};
 
 use crate::counting::is_missing;
-use game_rows::Numbers;
+use game_walk::Numbers;
 use gcg_drafts::Missing;
 use std::alloc::{AllocError, Global};
 

@@ -1,13 +1,13 @@
 //! A sheet in memory, as an input.
 ghost use Rattle.std.specs.Prelude.{◌≡◌, Some};
 
-use devices::{DeviceFailed, Input};
+use io_devices::{DeviceFailed, Input};
 use std::io::Read;
 
 /// Bytes in memory, from which no read fails.
 #[derive(Drop)]
 pub struct GivenSheet<'a> {
-    left: &'a [u8],
+    remaining: &'a [u8],
 }
 
 impl<'a> GivenSheet<'a> {
@@ -17,15 +17,15 @@ impl<'a> GivenSheet<'a> {
     pub fn new(bytes: &'a [u8]) -> GivenSheet<'a>
         ensures { ⟦<GivenSheet<'a> as Input>⟧.device result ≡ device_of bytes.now }
     {
-        GivenSheet { left: bytes }
+        GivenSheet { remaining: bytes }
     }
 }
 
 impl Input for GivenSheet<'_> {
-    ghost device = { λ s. record { bytes = Some s.left.now; failures = 0; stalls = 0 } };
+    ghost device = { λ s. record { bytes = Some s.remaining.now; failures = 0; stalls = 0 } };
 
     fn read(&mut self, buf: &mut [u8]) -> Result<usize, DeviceFailed> {
-        match self.left.read(buf) {
+        match self.remaining.read(buf) {
             Ok(n) => Ok(n),
             Err(_) => Err(DeviceFailed),
         }

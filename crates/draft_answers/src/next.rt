@@ -6,14 +6,14 @@ ghost use Rattle.lex_check.specs.Pairs.{list_in};
 ghost use Rattle.game_turns.specs.Machines.{state_of};
 ghost use Rattle.game_turns.specs.Seats.{side_of};
 ghost use Rattle.game_turns.specs.Tallies.{tally_at};
-ghost use Rattle.game_rows.specs.Walks.{IsWalk};
+ghost use Rattle.game_walk.specs.Walks.{IsWalk};
 ghost use Rattle.gcg_read.specs.Records.{record_of};
 ghost use Rattle.gcg_drafts.specs.Texts.{completed_text};
 ghost use Rattle.draft_answers.specs.Nexts.{turn_of, IsNextSide, IsNextOf, IsNext, IsNextOfDraft};
 
-use crate::faults::{DraftFault, told_fault};
-use game_rows::{Refusal, Walk, walk_and_correct};
+use crate::faults::{DraftFault, reported_fault};
 use game_turns::{Machine, is_turn, withdraws};
+use game_walk::{Refusal, Walk, walk_and_correct};
 use gcg_drafts::read_draft;
 use gcg_read::{Event, Record, Seat, Why};
 use lex_check::Checked;
@@ -115,7 +115,7 @@ fn end_of(walk: &Walk) -> &Machine
     if many == 0 {
         return &walk.start;
     }
-    &rows[many - 1].behind
+    &rows[many - 1].following
 }
 
 /// What is known after the last event that the rules allow with right numbers.
@@ -174,7 +174,7 @@ pub fn next_line(
             if fault.why == Why::NoMemory {
                 return Err(AllocError);
             }
-            Ok(Err(told_fault(text, fault)))
+            Ok(Err(reported_fault(text, fault)))
         }
     }
 }

@@ -4,10 +4,10 @@ ghost use Rattle.gcg_numbers.specs.Numbers.{text_with};
 ghost use Rattle.draft_answers.specs.Outs.{is_out, IsRecordOfDraft};
 
 use crate::filled::FilledDraft;
-use audit_lines::{corrected_text, is_written};
-use game_sheets::law_of_corrections;
+use game_corrections::law_of_corrections;
 use gcg_numbers::law_of_numbers;
 use gcg_write::law_of_other_points;
+use sheet_audit::{corrected_text, is_written};
 use std::alloc::{AllocError, Global};
 
 /// Whether the record of a draft is to be written: the rules refuse no line of it, no racks are ruled out, no bonus or penalty was found that would

@@ -2,11 +2,11 @@
 use Rattle.std.specs.Prelude.{ℕ, List, [], ◌∷◌, ◌++◌, codes, Option, Some, None}
 use Rattle.json.specs.Json.{Json, null, string}
 use Rattle.json_trees.specs.Values.{Field, object_of}
-use Rattle.call_stages.specs.declared.input_faults.InputFault.TheVariants as input
+use Rattle.engine_stages.specs.declared.input_faults.InputFault.TheVariants as input
 use Rattle.gcg_drafts.specs.declared.amiss.Amiss.{Amiss}
 use Rattle.gcg_drafts.specs.declared.amiss.Amiss.TheVariants as amiss
 use Rattle.draft_answers.specs.declared.faults.DraftFault.{DraftFault}
-use Rattle.answer_json.specs.Refusals.{refused_fields}
+use Rattle.json_base.specs.Refusals.{refused_fields}
 
 -- what is amiss with the fields of a line, by its name
 abbrev pub amiss_word : Amiss → List ℕ

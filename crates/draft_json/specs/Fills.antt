@@ -4,24 +4,24 @@ use Rattle.std.specs.List.{filter_map, range_with_len}
 use Rattle.std.specs.Option.{option_and_then}
 use Rattle.json.specs.Json.{Json, boolean}
 use Rattle.json_trees.specs.Values.{Field, array_of, count, integer, object_of}
-use Rattle.game_rows.specs.declared.refusals.Refusal.{Refusal}
+use Rattle.game_walk.specs.declared.refusals.Refusal.{Refusal}
 use Rattle.gcg_read.specs.declared.events.Event.{Event}
 use Rattle.gcg_drafts.specs.declared.missing.Missing.{Missing}
 use Rattle.gcg_drafts.specs.declared.missing.Missing.TheVariants as missing
 use Rattle.draft_answers.specs.declared.filled.FilledDraft.{FilledDraft}
 use Rattle.draft_answers.specs.Counting.{is_missing, is_both, lacks_before}
-use Rattle.unread_lines.specs.declared.lines.UnreadLine.{UnreadLine}
+use Rattle.gcg_unread.specs.declared.lines.UnreadLine.{UnreadLine}
 use Rattle.sheet_json.specs.Audits.{audit_fields}
 
 -- what the events lack that come before the line that the rules refuse
-abbrev pub lacks_told : FilledDraft → List Missing
-lacks_told filled = lacks_before filled.lacks.items filled.answer.audit.entry.record.events filled.stopped
+abbrev pub lacks_reported : FilledDraft → List Missing
+lacks_reported filled = lacks_before filled.lacks.items filled.answer.audit.entry.record.events filled.stopped
 
 -- how many numbers were put in
 abbrev pub put_in_fields : FilledDraft → List Field
 put_in_fields filled =
-    (codes "scores", count (count_by is_both (lacks_told filled)))
-    ∷ (codes "totals", count (count_by is_missing (lacks_told filled)))
+    (codes "scores", count (count_by is_both (lacks_reported filled)))
+    ∷ (codes "totals", count (count_by is_missing (lacks_reported filled)))
     ∷ []
 
 abbrev pub put_in_object : FilledDraft → Json

@@ -2,15 +2,15 @@
 use Rattle.std.specs.Prelude.{ℕ, List, [], ◌∷◌, codes, Option, Some, None}
 use Rattle.json.specs.Json.{Json, boolean, null, string}
 use Rattle.json_trees.specs.Values.{Field, array_of, count, integer, object_of}
-use Rattle.call_stages.specs.declared.verdicts.GameFault.TheVariants as game
-use Rattle.game_rows.specs.declared.refusals.Refusal.{Refusal}
+use Rattle.engine_stages.specs.declared.verdicts.GameFault.TheVariants as game
+use Rattle.game_walk.specs.declared.refusals.Refusal.{Refusal}
 use Rattle.gcg_read.specs.declared.events.Seat.{Seat}
 use Rattle.gcg_read.specs.declared.players.Player.{Player}
 use Rattle.draft_answers.specs.declared.next.DraftNext.{DraftNext}
 use Rattle.draft_answers.specs.declared.next.NextSide.{NextSide}
-use Rattle.answer_json.specs.Faults.{game_fault_object}
-use Rattle.answer_json.specs.Values.{given_text}
-use Rattle.answer_json.specs.Words.{player_number}
+use Rattle.json_base.specs.Faults.{game_fault_object}
+use Rattle.json_base.specs.Values.{given_text}
+use Rattle.json_base.specs.Words.{player_number}
 
 -- whether the rules refuse a line with any numbers, and that line with its fault
 abbrev pub stopped_word : Option Refusal → List ℕ

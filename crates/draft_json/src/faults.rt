@@ -3,10 +3,10 @@ ghost use Rattle.std.specs.Prelude.{◌≡◌, IfOk};
 ghost use Rattle.json_trees.specs.Trees.{view};
 ghost use Rattle.draft_json.specs.Faults.{amiss_value, amiss_word, bad_object};
 
-use answer_json::refused_fields;
-use call_stages::InputFault;
 use draft_answers::DraftFault;
+use engine_stages::InputFault;
 use gcg_drafts::Amiss;
+use json_base::refused_fields;
 use json_trees::{Tree, name_tree, null_tree, object, with_field_if};
 use std::alloc::{AllocError, Global};
 

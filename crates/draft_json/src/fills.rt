@@ -3,17 +3,17 @@ ghost use Rattle.std.specs.Prelude.{◌≡◌, IfOk, option_map};
 ghost use Rattle.json_trees.specs.Trees.{fields_view, view};
 ghost use Rattle.draft_json.specs.Fills.{fill_fields, fill_object, is_before, line_at, line_before, line_object, line_with, lines_value, put_in_line, put_in_object, stop_of};
 
-use answer_json::item_at;
 use draft_answers::{FilledDraft, put_in};
-use game_rows::Refusal;
+use game_walk::Refusal;
 use gcg_drafts::Missing;
 use gcg_read::Event;
+use gcg_unread::UnreadLine;
+use json_base::item_at;
 use json_trees::{
     Tree, array, bool_tree, count_tree, integer_tree, object, push_if, size_tree, with_field_if,
 };
 use sheet_json::audit_fields;
 use std::alloc::{AllocError, Global};
-use unread_lines::UnreadLine;
 
 /// How many numbers were put in.
 fn put_in_tree(alloc: Global, filled: &FilledDraft) -> Result<Tree, AllocError>

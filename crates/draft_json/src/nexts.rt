@@ -3,11 +3,11 @@ ghost use Rattle.std.specs.Prelude.{◌≡◌, IfOk};
 ghost use Rattle.json_trees.specs.Trees.{view};
 ghost use Rattle.draft_json.specs.Nexts.{next_object, seat_value, side_object, sides_value, stopped_fault, stopped_line, stopped_word};
 
-use answer_json::{game_fault_tree, given_tree, number_of};
-use call_stages::GameFault;
 use draft_answers::{DraftNext, NextSide};
-use game_rows::Refusal;
+use engine_stages::GameFault;
+use game_walk::Refusal;
 use gcg_read::{Player, Seat};
+use json_base::{game_fault_tree, given_tree, number_of};
 use json_trees::{
     Tree, array, bool_tree, count_tree, integer_tree, name_tree, null_tree, object, size_tree,
 };

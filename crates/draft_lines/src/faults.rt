@@ -1,7 +1,7 @@
 //! The fault of a draft in words.
 
-use call_stages::{Decision, InputFault};
 use draft_answers::DraftFault;
+use engine_stages::{Decision, InputFault};
 use gcg_drafts::Amiss;
 use std::alloc::{AllocError, Global};
 

@@ -1,9 +1,9 @@
 //! What is found of a draft.
 
-use audit_lines::push_audit;
-use decimal_text::push_number;
 use draft_answers::{FilledDraft, PutIn, put_in};
+use sheet_audit::push_audit;
 use std::alloc::{AllocError, Global};
+use text_decimals::push_number;
 
 /// Appends how many numbers were put in.
 fn push_put_in(text: &mut Vec<u8>, many: &PutIn) -> Result<(), AllocError> {

@@ -1,11 +1,11 @@
 //! What the next line of a draft is about.
 
-use call_stages::{GameFault, illegal_line};
-use decimal_text::push_number;
 use draft_answers::{DraftNext, NextLine, NextSide};
-use game_rows::Refusal;
+use engine_stages::{GameFault, illegal_line};
+use game_walk::Refusal;
 use gcg_read::{Players, Seat};
 use std::alloc::{AllocError, Global};
+use text_decimals::push_number;
 
 /// Appends the nickname of a player, or which player it is if there is none yet.
 fn push_name(text: &mut Vec<u8>, players: &Players, player: Seat) -> Result<(), AllocError> {

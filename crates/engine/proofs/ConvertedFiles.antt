@@ -4,13 +4,13 @@ use Rattle.lex_file.specs.declared.faults.FileFault.{FileFault}
 use Rattle.lex_file.specs.declared.formats.Format.{Format}
 use Rattle.lex_build.specs.Converts.{IsConverted, words_in_format}
 use Rattle.lex_build.specs.Stores.{limit_of}
-use Rattle.call_stages.specs.declared.decisions.Decision.{Decision}
-use Rattle.call_stages.specs.declared.lexicons.LexiconFault.TheVariants as fault
-use Rattle.call_stages.specs.declared.verdicts.Verdict.TheVariants as verdict
+use Rattle.engine_stages.specs.declared.decisions.Decision.{Decision}
+use Rattle.engine_stages.specs.declared.lexicons.LexiconFault.TheVariants as fault
+use Rattle.engine_stages.specs.declared.verdicts.Verdict.TheVariants as verdict
 use Rattle.engine.specs.Converting.{IsNewFormat, IsMalformed, IsPastLimit, IsConvertedBy, StaysLexicon}
-use Rattle.call_stages.specs.Lexicons.{file_fault, IsRefusedFile}
-use Rattle.call_stages.specs.Reports.{too_many_arcs_line}
-use Rattle.call_stages.specs.Telling.{IsTold}
+use Rattle.engine_stages.specs.Lexicons.{file_fault, IsRefusedFile}
+use Rattle.engine_stages.specs.Reports.{too_many_arcs_line}
+use Rattle.engine_stages.specs.Reporting.{IsReported}
 
 pub converted : (format : Format) (bytes shown report : List ℕ) → file_fault bytes ≡ None → shown ≡ bytes → IsConverted format shown report
     → IsConvertedBy format bytes verdict.Done report
@@ -19,14 +19,14 @@ converted format bytes shown report form same is =
 
 pub malformed : {E : Type 0} (format : Format) (bytes : List ℕ) (first : FileFault) (r : Result Decision E) → file_fault bytes ≡ Some first
     → IfOk r (λ d. IsRefusedFile (fault.Form first) d) → IfOk r (λ d. IsConvertedBy format bytes d.verdict d.report.items)
-malformed format bytes first (Ok d) fails refused = inr (inl (record { first = first; fails = fails; told = refused }))
+malformed format bytes first (Ok d) fails refused = inr (inl (record { first = first; fails = fails; reported = refused }))
 malformed format bytes first (Err gone) fails refused = tt
 
 pub past_limit : {E : Type 0} (format : Format) (bytes shown : List ℕ) (r : Result Decision E) → file_fault bytes ≡ None → shown ≡ bytes
-    → limit_of format < words_in_format format shown → IfOk r (λ d. IsTold verdict.BadFile too_many_arcs_line d.verdict d.report.items)
+    → limit_of format < words_in_format format shown → IfOk r (λ d. IsReported verdict.BadFile too_many_arcs_line d.verdict d.report.items)
     → IfOk r (λ d. IsConvertedBy format bytes d.verdict d.report.items)
 past_limit format bytes shown (Ok d) form same many refused =
-    inr (inr (record { form = form; many = subst (λ b. limit_of format < words_in_format format b) same many; told = refused }))
+    inr (inr (record { form = form; many = subst (λ b. limit_of format < words_in_format format b) same many; reported = refused }))
 past_limit format bytes shown (Err gone) form same many refused = tt
 
 -- ---- the lexicon of a list
@@ -43,7 +43,7 @@ stays_lexicon format words lexicon bytes is of_list =
     })
     (λ (rest : IsMalformed lexicon verdict.Done bytes ⊎ IsPastLimit format lexicon verdict.Done bytes).
     ⊎_elim
-    (λ (bad : IsMalformed lexicon verdict.Done bytes). let both = bad.told.verdict_is in cc)
-    (λ (past : IsPastLimit format lexicon verdict.Done bytes). let both = past.told.verdict_is in cc)
+    (λ (bad : IsMalformed lexicon verdict.Done bytes). let both = bad.reported.verdict_is in cc)
+    (λ (past : IsPastLimit format lexicon verdict.Done bytes). let both = past.reported.verdict_is in cc)
     rest)
     is

@@ -7,9 +7,9 @@ use Rattle.game_turns.proofs.PlaceLaws.{first_not_allowed}
 use Rattle.deal_cuts.specs.Laws.{FrontsDecide}
 use Rattle.game_deal.specs.Recorded.{steps_of}
 use Rattle.game_deal.specs.Verdicts.{IsGame}
-use Rattle.call_stages.specs.declared.verdicts.GameFault.{GameFault}
-use Rattle.call_stages.specs.declared.verdicts.GameFault.TheVariants as game
-use Rattle.call_stages.specs.declared.verdicts.Verdict.TheVariants as verdict
+use Rattle.engine_stages.specs.declared.verdicts.GameFault.{GameFault}
+use Rattle.engine_stages.specs.declared.verdicts.GameFault.TheVariants as game
+use Rattle.engine_stages.specs.declared.verdicts.Verdict.TheVariants as verdict
 use Rattle.game_case.specs.declared.findings.Finding.{Finding}
 use Rattle.game_case.specs.declared.findings.Finding.TheVariants as finding
 use Rattle.game_case.specs.Archiving.{HasEvents, IsFinding, IsFaulty}
@@ -30,7 +30,7 @@ found_legal : FrontsDecide → (rules : Rules) (words : List (List ℕ)) (r : Re
 found_legal fronts rules words r complete report judged has finding.NoGame is = absurd (has is)
 found_legal fronts rules words r complete report judged has (finding.Legal other) is =
     let legal = legal_answer rules words r complete report judged in
-    ap (λ c. finding.Legal c) (is.2 ∙ sym (same_complete complete (is_finished rules r.events) legal.told.verdict_is))
+    ap (λ c. finding.Legal c) (is.2 ∙ sym (same_complete complete (is_finished rules r.events) legal.reported.verdict_is))
 found_legal fronts rules words r complete report judged has (finding.Illegal line fault) is =
     let legal = legal_answer rules words r complete report judged in
     absurd (faulty_no_game fronts rules words r line fault is.1 (game_of rules words r (verdict.Legal complete) report legal))

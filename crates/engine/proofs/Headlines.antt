@@ -16,39 +16,39 @@ use Rattle.lex_list.specs.Lists.{list_of}
 use Rattle.lex_file.specs.declared.faults.FileFault.{FileFault}
 use Rattle.lex_file.specs.declared.faults.FileFault.TheVariants as form
 use Rattle.lex_file.specs.Shapes.{fault_of}
-use Rattle.lex_check.specs.Laws.{LexiconsAreExact}
+use Rattle.lex_check.specs.laws.{LexiconsAreExact}
 use Rattle.deal_completion.specs.Completion.{dealt}
 use Rattle.deal_steps.specs.Fitting.{Fits}
 use Rattle.game_deal.specs.Recorded.{steps_of}
-use Rattle.devices.specs.Devices.{Device}
+use Rattle.io_devices.specs.Devices.{Device}
 use Rattle.std.specs.Io.KnownBytes.{Appends}
 use Rattle.deal_steps.specs.declared.faults.DealBound.{DealBound}
 use Rattle.deal_steps.specs.declared.faults.DealBound.TheVariants as deal
 use Rattle.game_turns.specs.Places.{is_finished}
 use Rattle.game_deal.specs.Plain.{HaveNoExchange}
 use Rattle.game_turns.specs.Tallies.{tally_at}
-use Rattle.call_stages.specs.declared.faults.RunFault.{RunFault}
-use Rattle.game_report.specs.BestPlays.{full_rack, notation_text, best_text, TellsByRack}
-use Rattle.call_stages.specs.Lexicons.{file_fault, most_lexicon_bytes}
-use Rattle.call_stages.specs.declared.verdicts.Verdict.TheVariants as verdict
-use Rattle.call_stages.specs.declared.verdicts.GameFault.{GameFault}
-use Rattle.call_stages.specs.declared.verdicts.Verdict.{Verdict}
-use Rattle.engine.specs.Judging.{IsToldLegal, IsLegal, IsRefused, IsPastBound, IsLeftOpen, IsToldBound, IsJudged, IsDecided}
-use Rattle.call_stages.specs.Lexicons.{IsLexicon}
-use Rattle.call_stages.specs.Reading.{ReadsNoMore, ReadsList, ByMeaning, ByParts, ReadsRecord, ByLexicon, ReadsLexicon, IsToldFile}
-use Rattle.call_stages.specs.Reports.{legal_line, bad_list_line, bad_record_line, bad_rules_line}
+use Rattle.engine_stages.specs.declared.faults.RunFault.{RunFault}
+use Rattle.game_report.specs.BestPlays.{full_rack, notation_text, best_text, ReportsByRack}
+use Rattle.engine_stages.specs.Lexicons.{file_fault, most_lexicon_bytes}
+use Rattle.engine_stages.specs.declared.verdicts.Verdict.TheVariants as verdict
+use Rattle.engine_stages.specs.declared.verdicts.GameFault.{GameFault}
+use Rattle.engine_stages.specs.declared.verdicts.Verdict.{Verdict}
+use Rattle.engine.specs.Judging.{IsReportedLegal, IsLegal, IsRefused, IsPastBound, RemainsOpen, IsReportedBound, IsJudged, IsDecided}
+use Rattle.engine_stages.specs.Lexicons.{IsLexicon}
+use Rattle.engine_stages.specs.Reading.{ReadsNoMore, ReadsList, ByMeaning, ByParts, ReadsRecord, ByLexicon, ReadsLexicon, IsReportedFile}
+use Rattle.engine_stages.specs.Reports.{legal_line, bad_list_line, bad_record_line, bad_rules_line}
 use Rattle.engine.specs.LegalReports.{IsLegalReport}
-use Rattle.call_stages.specs.Runs.{IsRun}
+use Rattle.engine_stages.specs.Runs.{IsRun}
 use Rattle.deal_cuts.specs.Laws.{FrontsDecide}
 use Rattle.engine.specs.Settling.{IsSettledLegal, IsUndealt, IsSettled, IsSettledBy, SettledLegalMeansLegal, SettledIllegalMeansNoGame}
-use Rattle.call_stages.specs.Sources.{Source, AreGiven}
-use Rattle.call_stages.specs.Telling.{IsOwn}
+use Rattle.engine_stages.specs.Sources.{Source, AreGiven}
+use Rattle.engine_stages.specs.Reporting.{IsOwn}
 use Rattle.game_deal.specs.Verdicts.{IsGame}
 use Rattle.engine.specs.Headlines.{Texts, in_order, IsBestPrinted, IsLegalGame, IsLegalRun, LegalMeansLegal, LegalMeansLegalByText, IllegalMeansNoGame, PlainGamesAreDecided}
-use Rattle.engine.specs.JudgingLaws.{legal_own}
+use Rattle.engine.specs.laws.Judging.{legal_own}
 use Rattle.game_deal.proofs.FoundRacks.{some_of}
 use Rattle.game_turns.proofs.PlaceLaws.{first_not_allowed}
-use Rattle.engine.specs.VerdictLaws.{illegal_own}
+use Rattle.engine.specs.laws.Verdicts.{illegal_own}
 
 -- a file without a fault has the shape of a lexicon
 shape_by : (b : Bool) (rest : Option FileFault) → (if b then Some form.Length else rest) ≡ None → rest ≡ None
@@ -71,10 +71,10 @@ no_more rules board ps others h =
     out)
     h
 
-best_printed : (rules : Rules) (list : List (List ℕ)) (board : List (Option Tile)) (rack told : List ℕ) (answer : Option Given) → IsAnnotation rules list board rack answer → told ≡ best_text board answer
-    → IsBestPrinted rules list board rack told
-best_printed rules list board rack told None none is = inr (none, is)
-best_printed rules list board rack told (Some given) best is =
+best_printed : (rules : Rules) (list : List (List ℕ)) (board : List (Option Tile)) (rack reported : List ℕ) (answer : Option Given) → IsAnnotation rules list board rack answer → reported ≡ best_text board answer
+    → IsBestPrinted rules list board rack reported
+best_printed rules list board rack reported None none is = inr (none, is)
+best_printed rules list board rack reported (Some given) best is =
     let score : given.score ≡ pos (score_of rules board given.tiles) = ap (λ (g : Given). g.score) best.1 in
     inl (
       given.tiles,
@@ -84,11 +84,11 @@ best_printed rules list board rack told (Some given) best is =
     )
 
 -- what is said of a full rack
-by_rack : (rules : Rules) (list : List (List ℕ)) (board : List (Option Tile)) (rack told : List ℕ) (full : Option (List ℕ)) → full ≡ Some rack → TellsByRack rules list board full told
-    → IsBestPrinted rules list board rack told
-by_rack rules list board rack told full is tells =
-    let here = subst (λ f. TellsByRack rules list board f told) is tells in
-    best_printed rules list board rack told here.0 here.1 here.2
+by_rack : (rules : Rules) (list : List (List ℕ)) (board : List (Option Tile)) (rack reported : List ℕ) (full : Option (List ℕ)) → full ≡ Some rack → ReportsByRack rules list board full reported
+    → IsBestPrinted rules list board rack reported
+by_rack rules list board rack reported full is reports =
+    let here = subst (λ f. ReportsByRack rules list board f reported) is reports in
+    best_printed rules list board rack reported here.0 here.1 here.2
 
 same_ok : {A E : Type 0} (a b : A) (r : Result A E) → r ≡ Ok a → r ≡ Ok b → a ≡ b
 same_ok a b r one other = let same : Ok a ≡ Ok b = sym one ∙ other in cc
@@ -108,7 +108,7 @@ by_meaning bad line IsAnswer (Err fault) rest v report other is = absurd (other 
 by_lexicon : (words : List (List ℕ)) (bytes : List ℕ) (IsAnswer : List (List ℕ) → Verdict → List ℕ → Type 0) (rest : List (List ℕ)) (v : Verdict) (report : List ℕ)
     → v ≢ verdict.BadFile → ByLexicon words IsAnswer bytes rest v report → IsLexicon words bytes × IsAnswer rest v report
 by_lexicon words bytes IsAnswer rest v report other is =
-    ⊎_elim (λ (good : IsLexicon words bytes × IsAnswer rest v report). good) (λ (told : IsToldFile words bytes v report). absurd (other told.verdict_is)) is
+    ⊎_elim (λ (good : IsLexicon words bytes × IsAnswer rest v report). good) (λ (reported : IsReportedFile words bytes v report). absurd (other reported.verdict_is)) is
 
 -- what is answered on the inputs of a game, by what is answered on its record
 abbrev pub ReadsGame : ((words : List (List ℕ)) → Record → Verdict → List ℕ → Type 0) → (texts : List (List ℕ)) → Verdict → List ℕ → Type 0
@@ -134,22 +134,22 @@ on_game IsAnswer texts v report own is =
 
 -- ---- which of the four answers a verdict is
 
-bound_line : (bound : DealBound) (complete : Bool) (report : List ℕ) → IsToldBound bound (verdict.Legal complete) report → ⊥
-bound_line (deal.RackTooBig line) complete report told = let both = told.verdict_is in cc
-bound_line (deal.TilesShort line kind) complete report told = let both = told.verdict_is in cc
+bound_line : (bound : DealBound) (complete : Bool) (report : List ℕ) → IsReportedBound bound (verdict.Legal complete) report → ⊥
+bound_line (deal.RackTooBig line) complete report reported = let both = reported.verdict_is in cc
+bound_line (deal.TilesShort line kind) complete report reported = let both = reported.verdict_is in cc
 
 pub legal_answer : (rules : Rules) (words : List (List ℕ)) (r : Record) (complete : Bool) (report : List ℕ) → IsJudged rules words r (verdict.Legal complete) report
     → IsLegal rules words r (verdict.Legal complete) report
 legal_answer rules words r complete report is =
     ⊎_elim
     (λ (legal : IsLegal rules words r (verdict.Legal complete) report). legal)
-    (λ (rest : IsRefused rules words r (verdict.Legal complete) report ⊎ IsPastBound rules words r (verdict.Legal complete) report ⊎ IsLeftOpen rules words r (verdict.Legal complete) report).
+    (λ (rest : IsRefused rules words r (verdict.Legal complete) report ⊎ IsPastBound rules words r (verdict.Legal complete) report ⊎ RemainsOpen rules words r (verdict.Legal complete) report).
     ⊎_elim
-    (λ (refused : IsRefused rules words r (verdict.Legal complete) report). let both = refused.told.verdict_is in cc)
-    (λ (others : IsPastBound rules words r (verdict.Legal complete) report ⊎ IsLeftOpen rules words r (verdict.Legal complete) report).
+    (λ (refused : IsRefused rules words r (verdict.Legal complete) report). let both = refused.reported.verdict_is in cc)
+    (λ (others : IsPastBound rules words r (verdict.Legal complete) report ⊎ RemainsOpen rules words r (verdict.Legal complete) report).
     ⊎_elim
-    (λ (past : IsPastBound rules words r (verdict.Legal complete) report). absurd (bound_line past.bound complete report past.told))
-    (λ (left : IsLeftOpen rules words r (verdict.Legal complete) report). let both = left.told.verdict_is in cc)
+    (λ (past : IsPastBound rules words r (verdict.Legal complete) report). absurd (bound_line past.bound complete report past.reported))
+    (λ (remaining : RemainsOpen rules words r (verdict.Legal complete) report). let both = remaining.reported.verdict_is in cc)
     others)
     rest)
     is
@@ -158,11 +158,11 @@ legal_answer rules words r complete report is =
 
 -- a game that is reported as legal, by its inputs
 legal_game : LexiconsAreExact → (rules : Rules) (texts : Texts) (complete : Bool) (report : List ℕ) (words : List (List ℕ)) (game : Record) → list_of texts.words ≡ Ok words
-    → IsLexicon words texts.lexicon → record_of texts.game ≡ Ok game → IsGame rules words game.events → IsToldLegal rules words game (verdict.Legal complete) report
+    → IsLexicon words texts.lexicon → record_of texts.game ≡ Ok game → IsGame rules words game.events → IsReportedLegal rules words game (verdict.Legal complete) report
     → IsLegalGame rules texts complete report
-legal_game exact rules texts complete report words game listed paired recorded is told =
-    let ended : complete ≡ is_finished rules game.events = same_complete complete (is_finished rules game.events) told.verdict_is in
-    let lines = subst (λ c. IsLegalReport rules words c game report) (sym ended) told.told in
+legal_game exact rules texts complete report words game listed paired recorded is reported =
+    let ended : complete ≡ is_finished rules game.events = same_complete complete (is_finished rules game.events) reported.verdict_is in
+    let lines = subst (λ c. IsLegalReport rules words c game report) (sym ended) reported.reported in
     record {
       list = words;
       listed = listed;
@@ -173,12 +173,12 @@ legal_game exact rules texts complete report words game listed paired recorded i
       dealt = is.dealt;
       allowed = is.allowed;
       ended = ended;
-      told = lines.is_told.best;
-      lines = lines.is_told.count;
-      printed = lines.behind ∙ ap (λ t. legal_line complete ++ t) lines.is_told.are;
+      reported = lines.is_reported.best;
+      lines = lines.is_reported.count;
+      printed = lines.following ∙ ap (λ t. legal_line complete ++ t) lines.is_reported.are;
       best = λ place e rack turn.
-          let tells = lines.is_told.each place (slice_get_within game.events place e turn.event) e turn.event in
-          by_rack rules words (tally_at rules game.events place).board rack (slice_index_or lines.is_told.best place []) (full_rack (tally_at rules game.events place) e) turn.is_full (tells.judged turn.is_turn);
+          let reports = lines.is_reported.each place (slice_get_within game.events place e turn.event) e turn.event in
+          by_rack rules words (tally_at rules game.events place).board rack (slice_index_or lines.is_reported.best place []) (full_rack (tally_at rules game.events place) e) turn.is_full (reports.judged turn.is_turn);
     }
 
 pub game_of : (rules : Rules) (words : List (List ℕ)) (r : Record) (v : Verdict) (report : List ℕ) → IsLegal rules words r v report → IsGame rules words r.events
@@ -191,7 +191,7 @@ legal_is exact rules texts complete report decided =
     let on = on_game (IsJudged rules) texts (verdict.Legal complete) report (legal_own complete) decided in
     let is = legal_answer rules on.words on.game complete report on.answer in
     legal_game exact rules texts complete report on.words on.game on.listed on.paired on.recorded
-    (game_of rules on.words on.game (verdict.Legal complete) report is) is.told
+    (game_of rules on.words on.game (verdict.Legal complete) report is) is.reported
 
 -- the same for a settled verdict
 
@@ -200,16 +200,16 @@ settled_answer : (rules : Rules) (words : List (List ℕ)) (r : Record) (complet
 settled_answer rules words r complete report is =
     ⊎_elim
     (λ (legal : IsSettledLegal rules words r (verdict.Legal complete) report). legal)
-    (λ (rest : IsRefused rules words r (verdict.Legal complete) report ⊎ IsPastBound rules words r (verdict.Legal complete) report ⊎ IsUndealt rules words r (verdict.Legal complete) report ⊎ IsLeftOpen rules words r (verdict.Legal complete) report).
+    (λ (rest : IsRefused rules words r (verdict.Legal complete) report ⊎ IsPastBound rules words r (verdict.Legal complete) report ⊎ IsUndealt rules words r (verdict.Legal complete) report ⊎ RemainsOpen rules words r (verdict.Legal complete) report).
     ⊎_elim
-    (λ (refused : IsRefused rules words r (verdict.Legal complete) report). let both = refused.told.verdict_is in cc)
-    (λ (others : IsPastBound rules words r (verdict.Legal complete) report ⊎ IsUndealt rules words r (verdict.Legal complete) report ⊎ IsLeftOpen rules words r (verdict.Legal complete) report).
+    (λ (refused : IsRefused rules words r (verdict.Legal complete) report). let both = refused.reported.verdict_is in cc)
+    (λ (others : IsPastBound rules words r (verdict.Legal complete) report ⊎ IsUndealt rules words r (verdict.Legal complete) report ⊎ RemainsOpen rules words r (verdict.Legal complete) report).
     ⊎_elim
-    (λ (past : IsPastBound rules words r (verdict.Legal complete) report). absurd (bound_line past.bound complete report past.told))
-    (λ (last : IsUndealt rules words r (verdict.Legal complete) report ⊎ IsLeftOpen rules words r (verdict.Legal complete) report).
+    (λ (past : IsPastBound rules words r (verdict.Legal complete) report). absurd (bound_line past.bound complete report past.reported))
+    (λ (last : IsUndealt rules words r (verdict.Legal complete) report ⊎ RemainsOpen rules words r (verdict.Legal complete) report).
     ⊎_elim
-    (λ (none : IsUndealt rules words r (verdict.Legal complete) report). let both = none.told.verdict_is in cc)
-    (λ (left : IsLeftOpen rules words r (verdict.Legal complete) report). let both = left.told.verdict_is in cc)
+    (λ (none : IsUndealt rules words r (verdict.Legal complete) report). let both = none.reported.verdict_is in cc)
+    (λ (remaining : RemainsOpen rules words r (verdict.Legal complete) report). let both = remaining.reported.verdict_is in cc)
     last)
     others)
     rest)
@@ -219,7 +219,7 @@ pub settled_legal_is : LexiconsAreExact → SettledLegalMeansLegal
 settled_legal_is exact rules texts complete report decided =
     let on = on_game (IsSettled rules) texts (verdict.Legal complete) report (legal_own complete) decided in
     let is = settled_answer rules on.words on.game complete report on.answer in
-    legal_game exact rules texts complete report on.words on.game on.listed on.paired on.recorded is.game is.told
+    legal_game exact rules texts complete report on.words on.game on.listed on.paired on.recorded is.game is.reported
 
 -- ---- the same by the rules of a text
 
@@ -239,18 +239,18 @@ run_of : (rules : Rules) (IsAnswer : List (List ℕ) → Verdict → List ℕ �
     → ((given : Texts) → IsAnswer (in_order given) (verdict.Legal complete) report → IsLegalGame rules given complete report)
     → AreGiven (first ∷ second ∷ third ∷ []) texts → IsAnswer texts (verdict.Legal complete) report → Appends old.bytes new.bytes report
     → IsLegalRun rules (first ∷ second ∷ third ∷ []) complete old new
-run_of rules IsAnswer first second third [] complete report old new law given is told = absurd given
-run_of rules IsAnswer first second third (a ∷ []) complete report old new law given is told = absurd given.1
-run_of rules IsAnswer first second third (a ∷ b ∷ []) complete report old new law given is told = absurd given.1.1
-run_of rules IsAnswer first second third (a ∷ b ∷ c ∷ []) complete report old new law given is told =
+run_of rules IsAnswer first second third [] complete report old new law given is reported = absurd given
+run_of rules IsAnswer first second third (a ∷ []) complete report old new law given is reported = absurd given.1
+run_of rules IsAnswer first second third (a ∷ b ∷ []) complete report old new law given is reported = absurd given.1.1
+run_of rules IsAnswer first second third (a ∷ b ∷ c ∷ []) complete report old new law given is reported =
     record {
       texts = texts_of a b c;
       given = given;
       report = report;
       game = law (texts_of a b c) is;
-      told = told;
+      reported = reported;
     }
-run_of rules IsAnswer first second third (a ∷ b ∷ c ∷ d ∷ texts) complete report old new law given is told = absurd given.1.1.1
+run_of rules IsAnswer first second third (a ∷ b ∷ c ∷ d ∷ texts) complete report old new law given is reported = absurd given.1.1.1
 
 legal_run_by : (rules : Rules) (IsAnswer : List (List ℕ) → Verdict → List ℕ → Type 0) (first second third : Source) (old new : Device) (result : Result Verdict RunFault)
     → ((given : Texts) (complete : Bool) (report : List ℕ) → IsAnswer (in_order given) (verdict.Legal complete) report → IsLegalGame rules given complete report)
@@ -261,7 +261,7 @@ legal_run_by rules IsAnswer first second third old new (Ok v) law run =
     let there = run.answered in
     let texts = there.answered.texts in
     run_of rules IsAnswer first second third texts complete there.report old new (λ given. law given complete there.report) there.answered.given
-    (subst (λ x. IsAnswer texts x there.report) same there.answered.answer) there.told
+    (subst (λ x. IsAnswer texts x there.report) same there.answered.answer) there.reported
 legal_run_by rules IsAnswer first second third old new (Err fault) law run = tt
 
 pub legal_run : LegalMeansLegal → (rules : Rules) (first second third : Source) (old new : Device) (result : Result Verdict RunFault)
@@ -279,7 +279,7 @@ settled_run law rules first second third old new result run =
 -- ---- illegal
 
 legal_never : (rules : Rules) (words : List (List ℕ)) (r : Record) (line : ℕ) (fault : GameFault) (report : List ℕ) → IsLegal rules words r (verdict.Illegal line fault) report → ⊥
-legal_never rules words r line fault report legal = let both = legal.told.verdict_is in cc
+legal_never rules words r line fault report legal = let both = legal.reported.verdict_is in cc
 
 refused_no_game : (rules : Rules) (words : List (List ℕ)) (r : Record) (v : Verdict) (report : List ℕ) → IsRefused rules words r v report → IsGame rules words r.events → ⊥
 refused_no_game rules words r v report refused game = first_not_allowed rules words r.events refused.line refused.why refused.first game.allowed
@@ -288,13 +288,13 @@ no_game : (rules : Rules) (words : List (List ℕ)) (r : Record) (line : ℕ) (f
 no_game rules words r line fault report is game =
     ⊎_elim
     (λ (legal : IsLegal rules words r (verdict.Illegal line fault) report). legal_never rules words r line fault report legal)
-    (λ (rest : IsRefused rules words r (verdict.Illegal line fault) report ⊎ IsPastBound rules words r (verdict.Illegal line fault) report ⊎ IsLeftOpen rules words r (verdict.Illegal line fault) report).
+    (λ (rest : IsRefused rules words r (verdict.Illegal line fault) report ⊎ IsPastBound rules words r (verdict.Illegal line fault) report ⊎ RemainsOpen rules words r (verdict.Illegal line fault) report).
     ⊎_elim
     (λ (refused : IsRefused rules words r (verdict.Illegal line fault) report). refused_no_game rules words r (verdict.Illegal line fault) report refused game)
-    (λ (others : IsPastBound rules words r (verdict.Illegal line fault) report ⊎ IsLeftOpen rules words r (verdict.Illegal line fault) report).
+    (λ (others : IsPastBound rules words r (verdict.Illegal line fault) report ⊎ RemainsOpen rules words r (verdict.Illegal line fault) report).
     ⊎_elim
     (λ (past : IsPastBound rules words r (verdict.Illegal line fault) report). past.exceeded.undealt game.racks game.dealt)
-    (λ (left : IsLeftOpen rules words r (verdict.Illegal line fault) report). let both = left.told.verdict_is in cc)
+    (λ (remaining : RemainsOpen rules words r (verdict.Illegal line fault) report). let both = remaining.reported.verdict_is in cc)
     others)
     rest)
     is
@@ -318,17 +318,17 @@ settled_no_game : FrontsDecide → (rules : Rules) (words : List (List ℕ)) (r 
     → IsGame rules words r.events → ⊥
 settled_no_game fronts rules words r line fault report is game =
     ⊎_elim
-    (λ (legal : IsSettledLegal rules words r (verdict.Illegal line fault) report). let both = legal.told.verdict_is in cc)
-    (λ (rest : IsRefused rules words r (verdict.Illegal line fault) report ⊎ IsPastBound rules words r (verdict.Illegal line fault) report ⊎ IsUndealt rules words r (verdict.Illegal line fault) report ⊎ IsLeftOpen rules words r (verdict.Illegal line fault) report).
+    (λ (legal : IsSettledLegal rules words r (verdict.Illegal line fault) report). let both = legal.reported.verdict_is in cc)
+    (λ (rest : IsRefused rules words r (verdict.Illegal line fault) report ⊎ IsPastBound rules words r (verdict.Illegal line fault) report ⊎ IsUndealt rules words r (verdict.Illegal line fault) report ⊎ RemainsOpen rules words r (verdict.Illegal line fault) report).
     ⊎_elim
     (λ (refused : IsRefused rules words r (verdict.Illegal line fault) report). refused_no_game rules words r (verdict.Illegal line fault) report refused game)
-    (λ (others : IsPastBound rules words r (verdict.Illegal line fault) report ⊎ IsUndealt rules words r (verdict.Illegal line fault) report ⊎ IsLeftOpen rules words r (verdict.Illegal line fault) report).
+    (λ (others : IsPastBound rules words r (verdict.Illegal line fault) report ⊎ IsUndealt rules words r (verdict.Illegal line fault) report ⊎ RemainsOpen rules words r (verdict.Illegal line fault) report).
     ⊎_elim
     (λ (past : IsPastBound rules words r (verdict.Illegal line fault) report). past.exceeded.undealt game.racks game.dealt)
-    (λ (last : IsUndealt rules words r (verdict.Illegal line fault) report ⊎ IsLeftOpen rules words r (verdict.Illegal line fault) report).
+    (λ (last : IsUndealt rules words r (verdict.Illegal line fault) report ⊎ RemainsOpen rules words r (verdict.Illegal line fault) report).
     ⊎_elim
     (λ (none : IsUndealt rules words r (verdict.Illegal line fault) report). fronts rules (steps_of rules r.events) (none.ends.place + 1) none.ends.undealt game.racks game.dealt)
-    (λ (left : IsLeftOpen rules words r (verdict.Illegal line fault) report). let both = left.told.verdict_is in cc)
+    (λ (remaining : RemainsOpen rules words r (verdict.Illegal line fault) report). let both = remaining.reported.verdict_is in cc)
     last)
     others)
     rest)
@@ -350,7 +350,7 @@ good_list rules texts v report words game decided listed paired recorded =
     let by_pair : ByMeaning verdict.BadRecord bad_record_line (Last words) (record_of texts.game) [] v report
     = ⊎_elim
     (λ (good : IsLexicon words texts.lexicon × ReadsRecord (Last words) (texts.game ∷ []) v report). good.1)
-    (λ (told : IsToldFile words texts.lexicon v report). absurd (told.bad.unlike paired))
+    (λ (reported : IsReportedFile words texts.lexicon v report). absurd (reported.bad.unlike paired))
     by_list in
     subst (λ m. ByMeaning verdict.BadRecord bad_record_line (Last words) m [] v report) recorded by_pair
 
@@ -358,14 +358,14 @@ legal_of : (rules : Rules) (words : List (List ℕ)) (r : Record) (v : Verdict) 
     → v ≡ verdict.Legal (is_finished rules r.events)
 legal_of rules words r v report plain is game =
     ⊎_elim
-    (λ (legal : IsLegal rules words r v report). legal.told.verdict_is)
-    (λ (rest : IsRefused rules words r v report ⊎ IsPastBound rules words r v report ⊎ IsLeftOpen rules words r v report).
+    (λ (legal : IsLegal rules words r v report). legal.reported.verdict_is)
+    (λ (rest : IsRefused rules words r v report ⊎ IsPastBound rules words r v report ⊎ RemainsOpen rules words r v report).
     ⊎_elim
     (λ (refused : IsRefused rules words r v report). absurd (refused_no_game rules words r v report refused game))
-    (λ (others : IsPastBound rules words r v report ⊎ IsLeftOpen rules words r v report).
+    (λ (others : IsPastBound rules words r v report ⊎ RemainsOpen rules words r v report).
     ⊎_elim
     (λ (past : IsPastBound rules words r v report). absurd (past.exceeded.undealt game.racks game.dealt))
-    (λ (left : IsLeftOpen rules words r v report). absurd (left.unsettled.exchanged plain))
+    (λ (remaining : RemainsOpen rules words r v report). absurd (remaining.unsettled.exchanged plain))
     others)
     rest)
     is

@@ -5,24 +5,24 @@ use Rattle.ref_play.specs.declared.faults.PlayFault.{PlayFault}
 use Rattle.gcg_read.specs.declared.records.Record.{Record}
 use Rattle.game_board.specs.Laying.{AreLaid}
 use Rattle.game_board.specs.Texts.{board_text}
-use Rattle.call_stages.specs.declared.verdicts.Verdict.{Verdict}
-use Rattle.call_stages.specs.declared.verdicts.Verdict.TheVariants as verdict
+use Rattle.engine_stages.specs.declared.verdicts.Verdict.{Verdict}
+use Rattle.engine_stages.specs.declared.verdicts.Verdict.TheVariants as verdict
 use Rattle.engine.specs.Boards.{place_asked, IsShown, IsShownAt, IsBoarded}
-use Rattle.call_stages.specs.Reading.{ReadsNoMore}
-use Rattle.call_stages.specs.Reports.{bad_line_line}
-use Rattle.call_stages.specs.Telling.{IsTold}
-use Rattle.call_stages.specs.Sparing.{Spares, more_spares, record_spares}
+use Rattle.engine_stages.specs.Reading.{ReadsNoMore}
+use Rattle.engine_stages.specs.Reports.{bad_line_line}
+use Rattle.engine_stages.specs.Reporting.{IsReported}
+use Rattle.engine_stages.specs.laws.Sparing.{Spares, more_spares, record_spares}
 
 pub shown : (rules : Rules) (r : Record) (asked end : ℕ) (why : Option PlayFault) (report : List ℕ) → AreLaid r.events asked end why → report ≡ board_text rules r end why → IsShown rules r asked verdict.Done report
-shown rules r asked end why report laid told = record { verdict_is = refl; end = end; why = why; laid = laid; shown = told }
+shown rules r asked end why report laid reported = record { verdict_is = refl; end = end; why = why; laid = laid; shown = reported }
 
 -- there is such a place
 pub shown_by : (rules : Rules) (r : Record) (given meant : Option ℕ) (place : ℕ) (v : Verdict) (report : List ℕ) → given ≡ meant → given ≡ Some place → IsShown rules r place v report → IsShownAt rules r meant v report
-shown_by rules r given meant place v report same is told = subst (λ o. IsShownAt rules r o v report) (sym is ∙ same) told
+shown_by rules r given meant place v report same is reported = subst (λ o. IsShownAt rules r o v report) (sym is ∙ same) reported
 
 -- or there is none
-pub none_there : (rules : Rules) (r : Record) (given meant : Option ℕ) (v : Verdict) (report : List ℕ) → given ≡ meant → given ≡ None → IsTold verdict.BadLine bad_line_line v report → IsShownAt rules r meant v report
-none_there rules r given meant v report same is told = subst (λ o. IsShownAt rules r o v report) (sym is ∙ same) told
+pub none_there : (rules : Rules) (r : Record) (given meant : Option ℕ) (v : Verdict) (report : List ℕ) → given ≡ meant → given ≡ None → IsReported verdict.BadLine bad_line_line v report → IsShownAt rules r meant v report
+none_there rules r given meant v report same is reported = subst (λ o. IsShownAt rules r o v report) (sym is ∙ same) reported
 
 -- no answer says that the rules text is bad
 shown_spares : (rules : Rules) (r : Record) (asked : Option ℕ) (v : Verdict) (report : List ℕ) → IsShownAt rules r asked v report → v ≢ verdict.BadRules

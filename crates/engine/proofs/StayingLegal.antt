@@ -4,9 +4,9 @@ use Rattle.ref_tiles.specs.declared.rulebook.Rules.{Rules}
 use Rattle.gcg_read.specs.declared.records.Record.{Record}
 use Rattle.deal_cuts.specs.Laws.{FrontsDecide}
 use Rattle.game_deal.specs.Recorded.{steps_of}
-use Rattle.call_stages.specs.declared.verdicts.Verdict.{Verdict}
-use Rattle.call_stages.specs.declared.verdicts.Verdict.TheVariants as verdict
-use Rattle.engine.specs.Judging.{IsLegal, IsRefused, IsPastBound, IsLeftOpen}
+use Rattle.engine_stages.specs.declared.verdicts.Verdict.{Verdict}
+use Rattle.engine_stages.specs.declared.verdicts.Verdict.TheVariants as verdict
+use Rattle.engine.specs.Judging.{IsLegal, IsRefused, IsPastBound, RemainsOpen}
 use Rattle.engine.specs.Settling.{IsSettledLegal, IsUndealt, IsSettled, LegalStaysLegal}
 use Rattle.engine.proofs.Headlines.{legal_answer, game_of}
 use Rattle.game_turns.proofs.PlaceLaws.{first_not_allowed}
@@ -16,17 +16,17 @@ settled_as : FrontsDecide → (rules : Rules) (words : List (List ℕ)) (r : Rec
 settled_as fronts rules words r complete report legal v settled is =
     let game = game_of rules words r (verdict.Legal complete) report legal in
     ⊎_elim
-    (λ (own : IsSettledLegal rules words r v settled). own.told.verdict_is ∙ sym legal.told.verdict_is)
-    (λ (rest : IsRefused rules words r v settled ⊎ IsPastBound rules words r v settled ⊎ IsUndealt rules words r v settled ⊎ IsLeftOpen rules words r v settled).
+    (λ (own : IsSettledLegal rules words r v settled). own.reported.verdict_is ∙ sym legal.reported.verdict_is)
+    (λ (rest : IsRefused rules words r v settled ⊎ IsPastBound rules words r v settled ⊎ IsUndealt rules words r v settled ⊎ RemainsOpen rules words r v settled).
     ⊎_elim
     (λ (refused : IsRefused rules words r v settled). absurd (first_not_allowed rules words r.events refused.line refused.why refused.first legal.allowed))
-    (λ (others : IsPastBound rules words r v settled ⊎ IsUndealt rules words r v settled ⊎ IsLeftOpen rules words r v settled).
+    (λ (others : IsPastBound rules words r v settled ⊎ IsUndealt rules words r v settled ⊎ RemainsOpen rules words r v settled).
     ⊎_elim
     (λ (past : IsPastBound rules words r v settled). absurd (past.exceeded.undealt game.racks game.dealt))
-    (λ (last : IsUndealt rules words r v settled ⊎ IsLeftOpen rules words r v settled).
+    (λ (last : IsUndealt rules words r v settled ⊎ RemainsOpen rules words r v settled).
     ⊎_elim
     (λ (none : IsUndealt rules words r v settled). absurd (fronts rules (steps_of rules r.events) (none.ends.place + 1) none.ends.undealt game.racks game.dealt))
-    (λ (left : IsLeftOpen rules words r v settled). absurd (left.unsettled.undealt legal.is_dealt))
+    (λ (remaining : RemainsOpen rules words r v settled). absurd (remaining.unsettled.undealt legal.is_dealt))
     last)
     others)
     rest)

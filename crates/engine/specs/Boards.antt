@@ -7,11 +7,11 @@ use Rattle.gcg_read.specs.declared.records.Record.{Record}
 use Rattle.game_board.specs.Places.{place_of_line}
 use Rattle.game_board.specs.Laying.{AreLaid}
 use Rattle.game_board.specs.Texts.{board_text}
-use Rattle.call_stages.specs.declared.verdicts.Verdict.{Verdict}
-use Rattle.call_stages.specs.declared.verdicts.Verdict.TheVariants as verdict
-use Rattle.call_stages.specs.Reading.{ReadsNoMore, ReadsRecord, ReadsRules}
-use Rattle.call_stages.specs.Reports.{bad_line_line}
-use Rattle.call_stages.specs.Telling.{IsTold}
+use Rattle.engine_stages.specs.declared.verdicts.Verdict.{Verdict}
+use Rattle.engine_stages.specs.declared.verdicts.Verdict.TheVariants as verdict
+use Rattle.engine_stages.specs.Reading.{ReadsNoMore, ReadsRecord, ReadsRules}
+use Rattle.engine_stages.specs.Reports.{bad_line_line}
+use Rattle.engine_stages.specs.Reporting.{IsReported}
 
 -- the place that is given: that of the first event on a line or after it; without a line, after the last event
 abbrev pub place_asked : List Event → (before : Option ℕ) → Option ℕ
@@ -28,7 +28,7 @@ pub record IsShown (rules : Rules) (r : Record) (asked : ℕ) (v : Verdict) (rep
 
 -- the same if there is such a place; otherwise that there is none
 abbrev pub IsShownAt : Rules → Record → (asked : Option ℕ) → Verdict → List ℕ → Type 0
-IsShownAt rules r None v report = IsTold verdict.BadLine bad_line_line v report
+IsShownAt rules r None v report = IsReported verdict.BadLine bad_line_line v report
 IsShownAt rules r (Some asked) v report = IsShown rules r asked v report
 
 -- What is answered on the bytes of a record. Its events need only be plays that can be laid.

@@ -5,13 +5,13 @@ use Rattle.lex_file.specs.declared.formats.Format.{Format}
 use Rattle.lex_check.specs.Checks.{IsLexiconOf}
 use Rattle.lex_build.specs.Converts.{IsConverted, words_in_format}
 use Rattle.lex_build.specs.Stores.{limit_of}
-use Rattle.call_stages.specs.declared.lexicons.LexiconFault.TheVariants as fault
-use Rattle.call_stages.specs.declared.verdicts.Verdict.{Verdict}
-use Rattle.call_stages.specs.declared.verdicts.Verdict.TheVariants as verdict
-use Rattle.call_stages.specs.Lexicons.{file_fault}
-use Rattle.call_stages.specs.Reading.{ReadsNoMore, ReadsNext}
-use Rattle.call_stages.specs.Reports.{bad_file_line, too_many_arcs_line}
-use Rattle.call_stages.specs.Telling.{IsTold}
+use Rattle.engine_stages.specs.declared.lexicons.LexiconFault.TheVariants as fault
+use Rattle.engine_stages.specs.declared.verdicts.Verdict.{Verdict}
+use Rattle.engine_stages.specs.declared.verdicts.Verdict.TheVariants as verdict
+use Rattle.engine_stages.specs.Lexicons.{file_fault}
+use Rattle.engine_stages.specs.Reading.{ReadsNoMore, ReadsNext}
+use Rattle.engine_stages.specs.Reports.{bad_file_line, too_many_arcs_line}
+use Rattle.engine_stages.specs.Reporting.{IsReported}
 
 -- the file has the form of a lexicon, and these bytes are it in the format: the same nodes, language and number of words
 pub record IsNewFormat (format : Format) (lexicon : List ℕ) (v : Verdict) (bytes : List ℕ) : Type 0 where
@@ -23,13 +23,13 @@ pub record IsNewFormat (format : Format) (lexicon : List ℕ) (v : Verdict) (byt
 pub record IsMalformed (lexicon : List ℕ) (v : Verdict) (report : List ℕ) : Type 0 where
   pub first : FileFault
   pub fails : file_fault lexicon ≡ Some first
-  pub told : IsTold verdict.BadFile (bad_file_line (fault.Form first)) v report
+  pub reported : IsReported verdict.BadFile (bad_file_line (fault.Form first)) v report
 
 -- the file has the form of a lexicon, its nodes take more words than the format can number, and the report says so
 pub record IsPastLimit (format : Format) (lexicon : List ℕ) (v : Verdict) (report : List ℕ) : Type 0 where
   pub form : file_fault lexicon ≡ None
   pub many : limit_of format < words_in_format format lexicon
-  pub told : IsTold verdict.BadFile too_many_arcs_line v report
+  pub reported : IsReported verdict.BadFile too_many_arcs_line v report
 
 abbrev pub IsConvertedBy : Format → (lexicon : List ℕ) → Verdict → List ℕ → Type 0
 IsConvertedBy format lexicon v report = IsNewFormat format lexicon v report ⊎ IsMalformed lexicon v report ⊎ IsPastLimit format lexicon v report

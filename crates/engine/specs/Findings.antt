@@ -4,8 +4,8 @@ use Rattle.ref_tiles.specs.declared.rulebook.Rules.{Rules}
 use Rattle.gcg_read.specs.declared.records.Record.{Record}
 use Rattle.game_deal.specs.Plain.{HaveNoExchange}
 use Rattle.game_deal.specs.Verdicts.{IsGame}
-use Rattle.call_stages.specs.declared.verdicts.GameFault.{GameFault}
-use Rattle.call_stages.specs.declared.verdicts.Verdict.TheVariants as verdict
+use Rattle.engine_stages.specs.declared.verdicts.GameFault.{GameFault}
+use Rattle.engine_stages.specs.declared.verdicts.Verdict.TheVariants as verdict
 use Rattle.game_case.specs.declared.findings.Finding.{Finding}
 use Rattle.game_case.specs.declared.findings.Finding.TheVariants as finding
 use Rattle.game_case.specs.Archiving.{HasEvents, IsFinding}

@@ -19,28 +19,28 @@ use Rattle.game_turns.specs.Tallies.{tally_at}
 use Rattle.game_turns.specs.Places.{AreAllowed, is_finished}
 use Rattle.deal_steps.specs.declared.deals.Held.{Held}
 use Rattle.deal_steps.specs.Fitting.{Fits}
-use Rattle.devices.specs.Devices.{Device}
+use Rattle.io_devices.specs.Devices.{Device}
 use Rattle.game_deal.specs.Plain.{HaveNoExchange}
 use Rattle.game_deal.specs.Recorded.{steps_of}
 use Rattle.game_report.specs.BestPlays.{is_judged, full_rack, notation_text}
 use Rattle.game_report.specs.EventLines.{lines_from}
-use Rattle.call_stages.specs.declared.verdicts.Verdict.TheVariants as verdict
-use Rattle.call_stages.specs.declared.verdicts.Verdict.{Verdict}
-use Rattle.call_stages.specs.declared.verdicts.GameFault.{GameFault}
+use Rattle.engine_stages.specs.declared.verdicts.Verdict.TheVariants as verdict
+use Rattle.engine_stages.specs.declared.verdicts.Verdict.{Verdict}
+use Rattle.engine_stages.specs.declared.verdicts.GameFault.{GameFault}
 use Rattle.engine.specs.Judging.{IsDecided, IsDecidedByText}
-use Rattle.call_stages.specs.Lexicons.{IsLexicon}
-use Rattle.call_stages.specs.Reports.{legal_line}
-use Rattle.call_stages.specs.Sources.{Source, AreGiven}
+use Rattle.engine_stages.specs.Lexicons.{IsLexicon}
+use Rattle.engine_stages.specs.Reports.{legal_line}
+use Rattle.engine_stages.specs.Sources.{Source, AreGiven}
 use Rattle.game_deal.specs.Verdicts.{IsGame}
 
 -- What is printed for a full rack: a play that is legal, with words of the list and tiles of the rack, and that no such
 -- play outscores; or that there is no such play.
-abbrev pub IsBestPrinted : Rules → (list : List (List ℕ)) → (board : List (Option Tile)) → (rack : List ℕ) → (told : List ℕ) → Type 0
-IsBestPrinted rules list board rack told =
+abbrev pub IsBestPrinted : Rules → (list : List (List ℕ)) → (board : List (Option Tile)) → (rack : List ℕ) → (reported : List ℕ) → Type 0
+IsBestPrinted rules list board rack reported =
     ((ps : List Placed) × IsCandidate list board rack ps
     × ((others : List Placed) → IsCandidate list board rack others → score_of rules board others ≤ score_of rules board ps)
-    × (told ≡ codes " best " ++ notation_text (notation_of board ps) ++ 32 ∷ decimal (score_of rules board ps)))
-    ⊎ (((ps : List Placed) → IsCandidate list board rack ps → ⊥) × (told ≡ codes " best none"))
+    × (reported ≡ codes " best " ++ notation_text (notation_of board ps) ++ 32 ∷ decimal (score_of rules board ps)))
+    ⊎ (((ps : List Placed) → IsCandidate list board rack ps → ⊥) × (reported ≡ codes " best none"))
 
 -- A turn of a record whose line states a full rack: the event at a place, counted from 0, is a turn of its player, and the line
 -- has as many tiles as the player then holds.
@@ -75,12 +75,12 @@ pub record IsLegalGame (rules : Rules) (texts : Texts) (complete : Bool) (report
   pub allowed : AreAllowed rules list game.events
   -- It is complete exactly if it is finished, and the report has a line for each event.
   pub ended : complete ≡ is_finished rules game.events
-  pub told : List (List ℕ)
-  pub lines : length told ≡ length game.events
+  pub reported : List (List ℕ)
+  pub lines : length reported ≡ length game.events
   -- On each turn with a full rack no legal, valid play scores more than the printed best, which is itself legal and valid.
-  pub printed : report ≡ legal_line complete ++ lines_from rules list game 0 told
+  pub printed : report ≡ legal_line complete ++ lines_from rules list game 0 reported
   pub best : (place : ℕ) (e : Event) (rack : List ℕ) → IsFullTurn rules game.events place e rack
-      → IsBestPrinted rules list (tally_at rules game.events place).board rack (slice_index_or told place [])
+      → IsBestPrinted rules list (tally_at rules game.events place).board rack (slice_index_or reported place [])
 
 -- if this is answered on the texts, the verdict that a game is legal, with its report, means that
 abbrev pub MeansLegal : (IsAnswer : Rules → (texts : List (List ℕ)) → Verdict → (report : List ℕ) → Type 0) → Type 0
@@ -121,4 +121,4 @@ pub record IsLegalRun (rules : Rules) (sources : List Source) (complete : Bool) 
   pub given : AreGiven sources (in_order texts)
   pub report : List ℕ
   pub game : IsLegalGame rules texts complete report
-  pub told : Appends out_old.bytes out_new.bytes report
+  pub reported : Appends out_old.bytes out_new.bytes report

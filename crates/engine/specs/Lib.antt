@@ -9,8 +9,5 @@ pub mod Building
 pub mod Converting
 pub mod Headlines
 pub mod Settling
-pub mod VerdictLaws
-pub mod JudgingLaws
-pub mod BestPlayLaws
-pub mod TurnPlayLaws
+pub mod laws
 pub mod Findings

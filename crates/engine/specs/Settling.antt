@@ -6,14 +6,14 @@ use Rattle.gcg_read.specs.declared.records.Record.{Record}
 use Rattle.deal_cuts.specs.declared.earlier.Earlier.{Earlier}
 use Rattle.engine.specs.declared.judging.Judging.{Judging}
 use Rattle.engine.specs.declared.judging.Judging.TheVariants as judging
-use Rattle.call_stages.specs.declared.verdicts.GameFault.TheVariants as game
-use Rattle.call_stages.specs.declared.verdicts.Verdict.{Verdict}
-use Rattle.call_stages.specs.declared.verdicts.Verdict.TheVariants as verdict
+use Rattle.engine_stages.specs.declared.verdicts.GameFault.TheVariants as game
+use Rattle.engine_stages.specs.declared.verdicts.Verdict.{Verdict}
+use Rattle.engine_stages.specs.declared.verdicts.Verdict.TheVariants as verdict
 use Rattle.engine.specs.Headlines.{MeansLegal, MeansNoGame}
-use Rattle.engine.specs.Judging.{IsToldLegal, IsRefused, IsPastBound, IsLeftOpen, IsJudged}
-use Rattle.call_stages.specs.Reading.{ReadsNoMore, ReadsList, ReadsLexicon, ReadsRecord, ReadsRules}
-use Rattle.call_stages.specs.Reports.{illegal_line}
-use Rattle.call_stages.specs.Telling.{IsTold}
+use Rattle.engine.specs.Judging.{IsReportedLegal, IsRefused, IsPastBound, RemainsOpen, IsJudged}
+use Rattle.engine_stages.specs.Reading.{ReadsNoMore, ReadsList, ReadsLexicon, ReadsRecord, ReadsRules}
+use Rattle.engine_stages.specs.Reports.{illegal_line}
+use Rattle.engine_stages.specs.Reporting.{IsReported}
 use Rattle.game_deal.specs.Verdicts.{IsGame, HasNoDealBy}
 use Rattle.game_case.specs.declared.findings.Finding.{Finding}
 use Rattle.game_case.specs.Settling.{IsTriedAs, IsSettledAs}
@@ -21,7 +21,7 @@ use Rattle.game_case.specs.Settling.{IsTriedAs, IsSettledAs}
 -- the record is a game, and the report is that of a legal game
 pub record IsSettledLegal (rules : Rules) (words : List (List ℕ)) (r : Record) (v : Verdict) (report : List ℕ) : Type 0 where
   pub game : IsGame rules words r.events
-  pub told : IsToldLegal rules words r v report
+  pub reported : IsReportedLegal rules words r v report
 
 -- no racks fit the steps up to the event on a line, that one included, and this is known of the steps before it, and
 -- the report says so
@@ -29,14 +29,14 @@ pub record IsUndealt (rules : Rules) (words : List (List ℕ)) (r : Record) (v :
   pub line : ℕ
   pub earlier : Earlier
   pub ends : HasNoDealBy rules words r.events line earlier
-  pub told : IsTold (verdict.Illegal line (game.NoDeal earlier)) (illegal_line line (game.NoDeal earlier)) v report
+  pub reported : IsReported (verdict.Illegal line (game.NoDeal earlier)) (illegal_line line (game.NoDeal earlier)) v report
 
 -- What is answered on a record, by the words of a list. A record is left open only if the deal of the rule does not fit and no
 -- bound is exceeded.
 abbrev pub IsSettled : Rules → (words : List (List ℕ)) → Record → Verdict → (report : List ℕ) → Type 0
 IsSettled rules words r v report =
     IsSettledLegal rules words r v report ⊎ IsRefused rules words r v report ⊎ IsPastBound rules words r v report ⊎ IsUndealt rules words r v report
-    ⊎ IsLeftOpen rules words r v report
+    ⊎ RemainsOpen rules words r v report
 
 -- what is found of events that the rules allow, only by the deal of the rule of completion or by a search
 abbrev pub IsFoundBy : Judging → Rules → (words : List (List ℕ)) → List Event → Finding → Type 0

@@ -8,14 +8,14 @@ use Rattle.gcg_read.specs.Racks.{rack_of}
 use Rattle.game_turns.specs.declared.faults.RuleFault.{RuleFault}
 use Rattle.game_turns.specs.Places.{AreAllowedTo, IsRefusedBefore}
 use Rattle.game_turns.specs.Tallies.{tally_at}
-use Rattle.game_report.specs.TopPlays.{TellsFirst}
-use Rattle.call_stages.specs.declared.verdicts.GameFault.TheVariants as game
-use Rattle.call_stages.specs.declared.verdicts.Verdict.{Verdict}
-use Rattle.call_stages.specs.declared.verdicts.Verdict.TheVariants as verdict
+use Rattle.game_report.specs.TopPlays.{ReportsFirst}
+use Rattle.engine_stages.specs.declared.verdicts.GameFault.TheVariants as game
+use Rattle.engine_stages.specs.declared.verdicts.Verdict.{Verdict}
+use Rattle.engine_stages.specs.declared.verdicts.Verdict.TheVariants as verdict
 use Rattle.engine.specs.Boards.{place_asked}
-use Rattle.call_stages.specs.Reading.{ReadsNoMore, ReadsList, ReadsLexicon, ReadsRecord, ReadsRules}
-use Rattle.call_stages.specs.Reports.{bad_rack_line, bad_line_line, illegal_line}
-use Rattle.call_stages.specs.Telling.{IsTold}
+use Rattle.engine_stages.specs.Reading.{ReadsNoMore, ReadsList, ReadsLexicon, ReadsRecord, ReadsRules}
+use Rattle.engine_stages.specs.Reports.{bad_rack_line, bad_line_line, illegal_line}
+use Rattle.engine_stages.specs.Reporting.{IsReported}
 use Rattle.engine.specs.Topping.{ByRack}
 
 -- the rack of an event, if it shows one
@@ -29,26 +29,26 @@ rack_asked (Some rack) e = Some rack
 rack_asked None e = shown_rack e
 
 -- the rules allow each event before a place, and the report has the best `number` candidates by a rack on the board there
-pub record AreToldBefore (number : ℕ) (rules : Rules) (words : List (List ℕ)) (rack : List ℕ) (r : Record) (place : ℕ) (v : Verdict) (report : List ℕ) : Type 0 where
+pub record AreReportedBefore (number : ℕ) (rules : Rules) (words : List (List ℕ)) (rack : List ℕ) (r : Record) (place : ℕ) (v : Verdict) (report : List ℕ) : Type 0 where
   pub verdict_is : v ≡ verdict.Done
   pub allowed : AreAllowedTo rules words r.events place
-  pub told : TellsFirst number rules words (tally_at rules r.events place).board rack report
+  pub reported : ReportsFirst number rules words (tally_at rules r.events place).board rack report
 
 -- the first event that is not allowed is before a place, and the report gives it
-pub record IsToldRefusal (rules : Rules) (words : List (List ℕ)) (r : Record) (place : ℕ) (v : Verdict) (report : List ℕ) : Type 0 where
+pub record IsReportedRefusal (rules : Rules) (words : List (List ℕ)) (r : Record) (place : ℕ) (v : Verdict) (report : List ℕ) : Type 0 where
   pub line : ℕ
   pub why : RuleFault
   pub refused : IsRefusedBefore rules words r.events place line why
-  pub told : IsTold (verdict.Illegal line (game.Rule why)) (illegal_line line (game.Rule why)) v report
+  pub reported : IsReported (verdict.Illegal line (game.Rule why)) (illegal_line line (game.Rule why)) v report
 
 -- what is answered for a place by the rack of the question, if there is one; otherwise that there is none
 abbrev pub ByRackAsked : (number : ℕ) → Rules → (words : List (List ℕ)) → Record → (place : ℕ) → (rack : Option (List ℕ)) → Verdict → List ℕ → Type 0
-ByRackAsked number rules words r place None v report = IsTold verdict.BadRack bad_rack_line v report
-ByRackAsked number rules words r place (Some rack) v report = AreToldBefore number rules words rack r place v report ⊎ IsToldRefusal rules words r place v report
+ByRackAsked number rules words r place None v report = IsReported verdict.BadRack bad_rack_line v report
+ByRackAsked number rules words r place (Some rack) v report = AreReportedBefore number rules words rack r place v report ⊎ IsReportedRefusal rules words r place v report
 
 -- what is answered for the place of the question, if there is one; otherwise that there is no such line
 abbrev pub ByPlaceAsked : (number : ℕ) → Rules → (words : List (List ℕ)) → Record → (given : Option (List ℕ)) → (place : Option ℕ) → Verdict → List ℕ → Type 0
-ByPlaceAsked number rules words r given None v report = IsTold verdict.BadLine bad_line_line v report
+ByPlaceAsked number rules words r given None v report = IsReported verdict.BadLine bad_line_line v report
 ByPlaceAsked number rules words r given (Some place) v report = ByRackAsked number rules words r place (rack_asked given (slice_get r.events place)) v report
 
 -- What is answered on a record: that there is no such line; otherwise that there is no rack; otherwise the first event before the

@@ -1,12 +1,12 @@
 //! A question about the game of a record, by the bytes of its inputs.
 ghost use Rattle.std.specs.Prelude.{◌∷◌, []};
-ghost use Rattle.devices.specs.Devices.{HasRoom};
-ghost use Rattle.call_stages.specs.Reading.{ReadsNoMore, ReadsRecord, ReadsPair};
-ghost use Rattle.call_stages.specs.Runs.{IsRun};
-ghost use Rattle.call_stages.specs.Sources.{game_source, pair_sources};
+ghost use Rattle.io_devices.specs.Devices.{HasRoom};
+ghost use Rattle.engine_stages.specs.Reading.{ReadsNoMore, ReadsRecord, ReadsPair};
+ghost use Rattle.engine_stages.specs.Runs.{IsRun};
+ghost use Rattle.engine_stages.specs.Sources.{game_source, pair_sources};
 
-use call_stages::{GameQuestion, RulesSource, RunFault, Verdict, ask, finish};
-use devices::{Input, Output};
+use engine_stages::{GameQuestion, RulesSource, RunFault, Verdict, ask, finish};
+use io_devices::{Input, Output};
 use std::alloc::Global;
 
 /// Decides a question about the game of a record, and writes the report.

@@ -6,7 +6,7 @@ ghost use Rattle.lex_check.specs.Pairs.{list_in};
 ghost use Rattle.engine.specs.Topping.{IsToppedOn};
 
 use crate::judging::illegal;
-use call_stages::{AskedGame, Decision, GameFault, GameQuestion, Verdict};
+use engine_stages::{AskedGame, Decision, GameFault, GameQuestion, Verdict};
 use game_report::top_report;
 use game_turns::{Passed, play_through};
 use lex_check::Checked;
@@ -15,7 +15,7 @@ use std::alloc::{AllocError, Global};
 
 /// The best plays by a rack on the board after a record in which every event is allowed.
 #[tactic(auto, using(crate::proofs::Toppings::topped))]
-fn tell_top(
+fn report_top(
     alloc: Global,
     passed: &Passed<'_>,
     pair: &Checked<'_>,
@@ -38,7 +38,7 @@ fn top_record(alloc: Global, asked: &AskedGame<'_>, rack: &Counts) -> Result<Dec
     ensures { IfOk result (λ d. IsToppedOn asked.now.rules.now (list_in asked.now.pair.now) rack.now asked.now.record.now d.verdict d.report.items) }
 {
     match play_through(asked.rules, asked.record, asked.pair.list()) {
-        Ok(passed) => tell_top(alloc, &passed, asked.pair, rack),
+        Ok(passed) => report_top(alloc, &passed, asked.pair, rack),
         Err((line, fault)) => illegal(alloc, line, GameFault::Rule(fault)),
     }
 }
@@ -52,7 +52,7 @@ pub struct BestPlays {
 
 impl GameQuestion for BestPlays {
     ghost use Rattle.engine.specs.Topping.{IsToppedOn};
-    ghost use Rattle.engine.specs.BestPlayLaws.{topped_own};
+    ghost use Rattle.engine.specs.laws.BestPlays.{topped_own};
 
     ghost is_decided = { λ question rules words game v report. IsToppedOn rules words question.rack game v report };
 

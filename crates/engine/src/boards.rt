@@ -1,23 +1,23 @@
 //! The board of a record as a text, by the bytes of its inputs.
 ghost use Rattle.std.specs.Prelude.{◌≡◌, ◌≤◌, ◌∷◌, [], length, IfOk, IfSome};
-ghost use Rattle.devices.specs.Devices.{HasRoom};
-ghost use Rattle.call_stages.specs.declared.verdicts.Verdict.TheVariants as verdict;
+ghost use Rattle.io_devices.specs.Devices.{HasRoom};
+ghost use Rattle.engine_stages.specs.declared.verdicts.Verdict.TheVariants as verdict;
 ghost use Rattle.engine.specs.Boards.{place_asked, IsShown, IsShownAt, IsBoarded, IsBoardedByText};
-ghost use Rattle.call_stages.specs.Reports as reports;
-ghost use Rattle.call_stages.specs.Runs.{Decides, IsRun};
-ghost use Rattle.call_stages.specs.Sources.{rules_source, game_source};
-ghost use Rattle.call_stages.specs.Telling.{IsTold};
+ghost use Rattle.engine_stages.specs.Reports as reports;
+ghost use Rattle.engine_stages.specs.Runs.{Decides, IsRun};
+ghost use Rattle.engine_stages.specs.Sources.{rules_source, game_source};
+ghost use Rattle.engine_stages.specs.Reporting.{IsReported};
 
-use call_stages::{Decision, InputFault, RunFault, Verdict, finish, read_record, read_rules};
-use devices::{Input, Output};
+use engine_stages::{Decision, InputFault, RunFault, Verdict, finish, read_record, read_rules};
 use game_board::{board_text, lay_plays, place_of_line};
 use gcg_read::{Event, Record};
+use io_devices::{Input, Output};
 use ref_tiles::Rules;
 use std::alloc::{AllocError, Global};
 
 /// The verdict that no event is on the line or after it.
 pub(crate) fn bad_line(alloc: Global) -> Result<Decision, AllocError>
-    ensures { IfOk result (λ d. IsTold verdict.BadLine reports.bad_line_line d.verdict d.report.items) }
+    ensures { IfOk result (λ d. IsReported verdict.BadLine reports.bad_line_line d.verdict d.report.items) }
 {
     Decision::refused(alloc, InputFault::Line)
 }
@@ -54,7 +54,7 @@ pub fn show_board(
 }
 
 /// The board before a line of a record, or after its last event.
-fn tell_board(
+fn report_board(
     alloc: Global,
     rules: &Rules,
     game: &Record,
@@ -82,7 +82,7 @@ fn decide_board<G: Input>(
         Ok(record) => record,
         Err(decision) => return Ok(decision),
     };
-    Ok(tell_board(alloc, rules, &record, before)?)
+    Ok(report_board(alloc, rules, &record, before)?)
 }
 
 /// Writes the board of a record before the first event on a line or after it, or without a line after the last event, as a

@@ -1,22 +1,22 @@
 //! The lexicon of a word list, a GADDAG, by the bytes of its input.
 ghost use Rattle.std.specs.Prelude.{◌∷◌, [], IfOk};
-ghost use Rattle.devices.specs.Devices.{HasRoom};
-ghost use Rattle.call_stages.specs.declared.verdicts.Verdict.TheVariants as verdict;
+ghost use Rattle.io_devices.specs.Devices.{HasRoom};
+ghost use Rattle.engine_stages.specs.declared.verdicts.Verdict.TheVariants as verdict;
 ghost use Rattle.engine.specs.Building.{IsBuilt, IsBuiltBy};
-ghost use Rattle.call_stages.specs.Reports as reports;
-ghost use Rattle.call_stages.specs.Runs.{Decides, IsRun};
-ghost use Rattle.call_stages.specs.Sources.{words_source};
-ghost use Rattle.call_stages.specs.Telling.{IsTold};
+ghost use Rattle.engine_stages.specs.Reports as reports;
+ghost use Rattle.engine_stages.specs.Runs.{Decides, IsRun};
+ghost use Rattle.engine_stages.specs.Sources.{words_source};
+ghost use Rattle.engine_stages.specs.Reporting.{IsReported};
 
-use call_stages::{Decision, InputFault, RunFault, Verdict, finish, read_list};
-use devices::{Input, Output};
+use engine_stages::{Decision, InputFault, RunFault, Verdict, finish, read_list};
+use io_devices::{Input, Output};
 use lex_build::{BuildFault, build};
 use lex_list::WordList;
 use std::alloc::{AllocError, Global};
 
 /// The verdict that the file to be made would have more arcs, or words, than its format can number.
 pub(crate) fn too_many_arcs(alloc: Global) -> Result<Decision, AllocError>
-    ensures { IfOk result (λ d. IsTold verdict.BadFile reports.too_many_arcs_line d.verdict d.report.items) }
+    ensures { IfOk result (λ d. IsReported verdict.BadFile reports.too_many_arcs_line d.verdict d.report.items) }
 {
     Decision::refused(alloc, InputFault::TooManyArcs)
 }

@@ -1,26 +1,26 @@
 //! Whether a file is the lexicon of a word list, by the bytes of both.
 ghost use Rattle.std.specs.Prelude.{◌∷◌, [], length, IfOk};
-ghost use Rattle.devices.specs.Devices.{HasRoom};
+ghost use Rattle.io_devices.specs.Devices.{HasRoom};
 ghost use Rattle.lex_check.specs.Pairs.{list_in};
 ghost use Rattle.engine.specs.Checking.{IsChecked};
-ghost use Rattle.call_stages.specs.declared.verdicts.Verdict.TheVariants as verdict;
-ghost use Rattle.call_stages.specs.Reading.{ReadsNoMore, ReadsLexicon, ByLexicon};
-ghost use Rattle.call_stages.specs.Reports as reports;
-ghost use Rattle.call_stages.specs.Runs.{Decides, IsRun};
-ghost use Rattle.call_stages.specs.Sources.{words_source, lexicon_source};
-ghost use Rattle.call_stages.specs.Telling.{IsTold};
+ghost use Rattle.engine_stages.specs.declared.verdicts.Verdict.TheVariants as verdict;
+ghost use Rattle.engine_stages.specs.Reading.{ReadsNoMore, ReadsLexicon, ByLexicon};
+ghost use Rattle.engine_stages.specs.Reports as reports;
+ghost use Rattle.engine_stages.specs.Runs.{Decides, IsRun};
+ghost use Rattle.engine_stages.specs.Sources.{words_source, lexicon_source};
+ghost use Rattle.engine_stages.specs.Reporting.{IsReported};
 
-use call_stages::{
+use engine_stages::{
     Decision, RunFault, Verdict, finish, ok_line, pair_file, read_lexicon, read_list,
 };
-use devices::{Input, Output};
+use io_devices::{Input, Output};
 use lex_check::Checked;
 use lex_list::WordList;
 use std::alloc::{AllocError, Global};
 
 /// The verdict that it is done, with the number of words of a list and its lexicon.
-fn tell_number(alloc: Global, pair: &Checked<'_>) -> Result<Decision, AllocError>
-    ensures { IfOk result (λ d. IsTold verdict.Done (reports.ok_line (length (list_in pair.now))) d.verdict d.report.items) }
+fn report_number(alloc: Global, pair: &Checked<'_>) -> Result<Decision, AllocError>
+    ensures { IfOk result (λ d. IsReported verdict.Done (reports.ok_line (length (list_in pair.now))) d.verdict d.report.items) }
 {
     let report = ok_line(alloc, pair.list().len())?;
     Ok(Decision {
@@ -32,10 +32,10 @@ fn tell_number(alloc: Global, pair: &Checked<'_>) -> Result<Decision, AllocError
 
 /// The number of words of a list, if the bytes of a file are its lexicon; otherwise what is wrong with them.
 fn check_bytes(alloc: Global, list: &WordList, bytes: &[u8]) -> Result<Decision, AllocError>
-    ensures { IfOk result (λ d. ByLexicon list.now (ReadsNoMore (IsTold verdict.Done (reports.ok_line (length list.now)))) bytes.now [] d.verdict d.report.items) }
+    ensures { IfOk result (λ d. ByLexicon list.now (ReadsNoMore (IsReported verdict.Done (reports.ok_line (length list.now)))) bytes.now [] d.verdict d.report.items) }
 {
     match pair_file(alloc, list, bytes)? {
-        Ok(pair) => tell_number(alloc, &pair),
+        Ok(pair) => report_number(alloc, &pair),
         Err(decision) => Ok(decision),
     }
 }
@@ -48,7 +48,7 @@ fn decide_file<L: Input>(
 ) -> Result<Decision, RunFault>
     requires { HasRoom (L.device lexicon.old) }
     ensures { Decides (lexicon_source (L.device lexicon.old) (L.device lexicon.new) ∷ [])
-        (ReadsLexicon list.now (ReadsNoMore (IsTold verdict.Done (reports.ok_line (length list.now))))) result }
+        (ReadsLexicon list.now (ReadsNoMore (IsReported verdict.Done (reports.ok_line (length list.now))))) result }
 {
     let bytes = read_lexicon(alloc, lexicon)?;
     Ok(check_bytes(alloc, list, &bytes)?)

@@ -1,15 +1,15 @@
 //! A compiled lexicon in another format, by the bytes of its input.
 ghost use Rattle.std.specs.Prelude.{◌∷◌, [], IfOk};
-ghost use Rattle.devices.specs.Devices.{HasRoom};
+ghost use Rattle.io_devices.specs.Devices.{HasRoom};
 ghost use Rattle.engine.specs.Converting.{IsConvertedBy, IsConvertedFile};
-ghost use Rattle.call_stages.specs.Runs.{Decides, IsRun};
-ghost use Rattle.call_stages.specs.Sources.{lexicon_source};
+ghost use Rattle.engine_stages.specs.Runs.{Decides, IsRun};
+ghost use Rattle.engine_stages.specs.Sources.{lexicon_source};
 
 use crate::building::too_many_arcs;
-use call_stages::{
+use engine_stages::{
     Decision, LexiconFault, RunFault, Verdict, bad_file, finish, open_within, read_lexicon,
 };
-use devices::{Input, Output};
+use io_devices::{Input, Output};
 use lex_build::{BuildFault, convert};
 use lex_file::Format;
 use std::alloc::{AllocError, Global};

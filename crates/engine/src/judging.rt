@@ -2,13 +2,13 @@
 ghost use Rattle.std.specs.Prelude.{ℕ, List, IfOk};
 ghost use Rattle.game_turns.specs.{Passing.{rules_in, record_in}, Places.{AreAllowed}};
 ghost use Rattle.lex_check.specs.Pairs as pairs;
-ghost use Rattle.call_stages.specs.declared.verdicts.Verdict.TheVariants as verdict;
-ghost use Rattle.engine.specs.{Judging.{IsToldLegal}, Settling.{IsFoundBy, IsJudgedBy}};
-ghost use Rattle.call_stages.specs.Telling.{IsTold};
-ghost use Rattle.call_stages.specs.Reports as reports;
+ghost use Rattle.engine_stages.specs.declared.verdicts.Verdict.TheVariants as verdict;
+ghost use Rattle.engine.specs.{Judging.{IsReportedLegal}, Settling.{IsFoundBy, IsJudgedBy}};
+ghost use Rattle.engine_stages.specs.Reporting.{IsReported};
+ghost use Rattle.engine_stages.specs.Reports as reports;
 
 use crate::legal_reports::legal_report;
-use call_stages::{
+use engine_stages::{
     AskedGame, Decision, GameFault, GameQuestion, Verdict, illegal_line, unsettled_line,
 };
 use game_case::{Finding, settle_passed, try_passed};
@@ -18,7 +18,7 @@ use std::alloc::{AllocError, Global};
 
 /// The verdict that a game is illegal.
 pub fn illegal(alloc: Global, line: u32, fault: GameFault) -> Result<Decision, AllocError>
-    ensures { IfOk result (λ d. IsTold (verdict.Illegal line fault) (reports.illegal_line line fault) d.verdict d.report.items) }
+    ensures { IfOk result (λ d. IsReported (verdict.Illegal line fault) (reports.illegal_line line fault) d.verdict d.report.items) }
 {
     let report = illegal_line(alloc, line, &fault)?;
     Ok(Decision {
@@ -30,7 +30,7 @@ pub fn illegal(alloc: Global, line: u32, fault: GameFault) -> Result<Decision, A
 
 /// The verdict that a game is legal.
 fn legal(alloc: Global, passed: &Passed<'_>, pair: &Checked<'_>) -> Result<Decision, AllocError>
-    ensures { IfOk result (λ d. IsToldLegal (rules_in passed.now) (pairs.list_in pair.now) (record_in passed.now) d.verdict d.report.items) }
+    ensures { IfOk result (λ d. IsReportedLegal (rules_in passed.now) (pairs.list_in pair.now) (record_in passed.now) d.verdict d.report.items) }
 {
     let complete = passed.complete();
     let report = legal_report(alloc, passed, pair)?;
@@ -43,7 +43,7 @@ fn legal(alloc: Global, passed: &Passed<'_>, pair: &Checked<'_>) -> Result<Decis
 
 /// The verdict that no deal was found, and that none is ruled out.
 fn unsettled(alloc: Global) -> Result<Decision, AllocError>
-    ensures { IfOk result (λ d. IsTold verdict.Unsettled reports.unsettled_line d.verdict d.report.items) }
+    ensures { IfOk result (λ d. IsReported verdict.Unsettled reports.unsettled_line d.verdict d.report.items) }
 {
     let report = unsettled_line(alloc)?;
     Ok(Decision {
@@ -115,7 +115,7 @@ pub enum Judging {
 
 impl GameQuestion for Judging {
     ghost use Rattle.engine.specs.Settling.{IsJudgedBy};
-    ghost use Rattle.engine.specs.JudgingLaws.{judged_by_own};
+    ghost use Rattle.engine.specs.laws.Judging.{judged_by_own};
 
     ghost is_decided = { λ question rules words game v report. IsJudgedBy question rules words game v report };
 

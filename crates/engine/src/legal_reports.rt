@@ -4,7 +4,7 @@ ghost use Rattle.game_turns.specs.{Passing.{rules_in, record_in}, Places.{is_fin
 ghost use Rattle.lex_check.specs.Pairs as pairs;
 ghost use Rattle.engine.specs.LegalReports.{IsLegalReport};
 
-use call_stages::legal_line;
+use engine_stages::legal_line;
 use game_report::push_event_lines;
 use game_turns::Passed;
 use lex_check::Checked;

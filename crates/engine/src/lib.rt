@@ -5,7 +5,7 @@
 //! and [`run_settled_ruled`] search for a deal. The contract of [`run`] is the theorem of the whole, from the bytes of the inputs to the bytes of the
 //! output.
 //!
-//! They are made of stages, which are in `call_stages`; other calls can be made of these too. [`ask`] is the door: it reads rules, a word
+//! They are made of stages, which are in `engine_stages`; other calls can be made of these too. [`ask`] is the door: it reads rules, a word
 //! list and its lexicon, and then asks a [`Question`]. [`run_question`] asks a [`GameQuestion`], and writes what is decided: [`Judging`],
 //! [`BestPlays`] and [`TurnPlays`] are such questions. [`decide_by_pair`] asks one about one game of many by the same pair.
 //!
@@ -33,14 +33,14 @@ pub use asking::run_question;
 pub use best_plays::BestPlays;
 pub use boards::{place_asked, run_board, run_board_ruled};
 pub use building::run_build;
-pub use call_stages::{
+pub use checking::run_check;
+pub use converting::run_convert;
+pub use engine_stages::{
     Answer, AskedGame, Decision, Earlier, GameFault, GameQuestion, Given, KnownRules, LexiconFault,
     Question, RulesInput, RulesSource, RunFault, Verdict, ask, decide_by_pair, fault_text, finish,
     game_from, list_from, pair_file, read_lexicon, read_list, read_record, read_rules, record_from,
     rules_from,
 };
-pub use checking::run_check;
-pub use converting::run_convert;
 pub use game_deal::{RackFinding, RackTrial, settle_racks, try_racks};
 pub use game_report::MOST_PLAYS;
 pub use game_turns::{Passed, play_through};

@@ -1,18 +1,18 @@
 //! Judging a game by the bytes of its inputs, by the deal of the rule or by a search. The contract of [`run`] is the theorem of the whole.
 ghost use Rattle.std.specs.Prelude.{◌≡◌, ◌∷◌, [], Bool, IfOk};
-ghost use Rattle.devices.specs.Devices.{HasRoom};
-ghost use Rattle.call_stages.specs.declared.verdicts.Verdict.TheVariants as verdict;
+ghost use Rattle.io_devices.specs.Devices.{HasRoom};
+ghost use Rattle.engine_stages.specs.declared.verdicts.Verdict.TheVariants as verdict;
 ghost use Rattle.engine.specs.Headlines.{IsLegalRun};
 ghost use Rattle.engine.specs.Judging.{IsDecided, IsDecidedByText};
-ghost use Rattle.call_stages.specs.Runs.{IsRun};
+ghost use Rattle.engine_stages.specs.Runs.{IsRun};
 ghost use Rattle.engine.specs.Settling.{IsSettledBy, IsSettledByText};
-ghost use Rattle.call_stages.specs.Sources.{rules_source, words_source, lexicon_source, game_source};
+ghost use Rattle.engine_stages.specs.Sources.{rules_source, words_source, lexicon_source, game_source};
 
 use crate::asking::run_question;
 use crate::judging::Judging;
 use crate::laws::{law_of_legal, law_of_settled_games};
-use call_stages::{KnownRules, RunFault, Verdict};
-use devices::{Input, Output};
+use engine_stages::{KnownRules, RunFault, Verdict};
+use io_devices::{Input, Output};
 use ref_tiles::Rules;
 use std::alloc::Global;
 

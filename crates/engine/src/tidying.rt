@@ -1,17 +1,17 @@
 //! The normal form of a record, by the bytes of its input.
 ghost use Rattle.std.specs.Prelude.{◌≡◌, ◌∷◌, [], IfOk};
-ghost use Rattle.devices.specs.Devices.{HasRoom};
+ghost use Rattle.io_devices.specs.Devices.{HasRoom};
 ghost use Rattle.gcg_write.specs.Normal.{normal_of};
-ghost use Rattle.call_stages.specs.declared.verdicts.Verdict.TheVariants as verdict;
-ghost use Rattle.call_stages.specs.Runs.{Decides, IsRun};
-ghost use Rattle.call_stages.specs.Sources.{game_source};
-ghost use Rattle.call_stages.specs.Telling.{IsTold};
+ghost use Rattle.engine_stages.specs.declared.verdicts.Verdict.TheVariants as verdict;
+ghost use Rattle.engine_stages.specs.Runs.{Decides, IsRun};
+ghost use Rattle.engine_stages.specs.Sources.{game_source};
+ghost use Rattle.engine_stages.specs.Reporting.{IsReported};
 ghost use Rattle.engine.specs.Tidying.{IsTidied};
 
-use call_stages::{Decision, RunFault, Verdict, finish, read_record};
-use devices::{Input, Output};
+use engine_stages::{Decision, RunFault, Verdict, finish, read_record};
 use gcg_read::Record;
 use gcg_write::write;
+use io_devices::{Input, Output};
 use std::alloc::{AllocError, Global};
 
 /// The normal form of a record.
@@ -25,7 +25,7 @@ fn normal_form(alloc: Global, game: &Record) -> Result<Vec<u8>, AllocError>
 
 /// The verdict that it is done, with the normal form of a record.
 fn tidy(alloc: Global, game: &Record) -> Result<Decision, AllocError>
-    ensures { IfOk result (λ d. IsTold verdict.Done (normal_of game.now) d.verdict d.report.items) }
+    ensures { IfOk result (λ d. IsReported verdict.Done (normal_of game.now) d.verdict d.report.items) }
 {
     let report = normal_form(alloc, game)?;
     Ok(Decision {

@@ -1,16 +1,16 @@
 //! The best plays before a line of a record, by the bytes of its inputs.
 ghost use Rattle.std.specs.Prelude.{◌≡◌, ◌≤◌, ◌∷◌, [], None};
 ghost use Rattle.std.specs.Option.{option_copied};
-ghost use Rattle.devices.specs.Devices.{HasRoom};
-ghost use Rattle.call_stages.specs.Runs.{IsRun};
-ghost use Rattle.call_stages.specs.Sources.{rules_source, words_source, lexicon_source, game_source, AreUntouched};
+ghost use Rattle.io_devices.specs.Devices.{HasRoom};
+ghost use Rattle.engine_stages.specs.Runs.{IsRun};
+ghost use Rattle.engine_stages.specs.Sources.{rules_source, words_source, lexicon_source, game_source, AreUntouched};
 ghost use Rattle.engine.specs.TopBefore.{given_rack, AreTopped, AreToppedByText};
 
 use crate::asking::run_question;
 use crate::topping::refuse_rack;
 use crate::turn_plays::turn_plays;
-use call_stages::{KnownRules, RunFault, Verdict};
-use devices::{Input, Output};
+use engine_stages::{KnownRules, RunFault, Verdict};
+use io_devices::{Input, Output};
 use ref_tiles::Rules;
 use std::alloc::Global;
 

@@ -1,33 +1,33 @@
 //! The ten best plays by a rack on the board after a record, by the bytes of its inputs.
 ghost use Rattle.std.specs.Prelude.{◌≡◌, ◌∷◌, [], false, IfOk, IfErr};
-ghost use Rattle.devices.specs.Devices.{HasRoom};
+ghost use Rattle.io_devices.specs.Devices.{HasRoom};
 ghost use Rattle.gcg_read.specs.Racks.{is_rack};
-ghost use Rattle.call_stages.specs.declared.faults.RunFault.TheVariants.{NoMemory};
-ghost use Rattle.call_stages.specs.declared.verdicts.Verdict.TheVariants as verdict;
-ghost use Rattle.call_stages.specs.Reports as reports;
-ghost use Rattle.call_stages.specs.Runs.{IsRun};
-ghost use Rattle.call_stages.specs.Sources.{rules_source, words_source, lexicon_source, game_source, AreUntouched};
-ghost use Rattle.call_stages.specs.Telling.{IsTold};
+ghost use Rattle.engine_stages.specs.declared.faults.RunFault.TheVariants.{NoMemory};
+ghost use Rattle.engine_stages.specs.declared.verdicts.Verdict.TheVariants as verdict;
+ghost use Rattle.engine_stages.specs.Reports as reports;
+ghost use Rattle.engine_stages.specs.Runs.{IsRun};
+ghost use Rattle.engine_stages.specs.Sources.{rules_source, words_source, lexicon_source, game_source, AreUntouched};
+ghost use Rattle.engine_stages.specs.Reporting.{IsReported};
 ghost use Rattle.engine.specs.Topping.{IsTopped, IsToppedByText, RefusesRack};
 
 use crate::asking::run_question;
 use crate::best_plays::BestPlays;
-use call_stages::{Decision, InputFault, KnownRules, RunFault, Verdict, finish};
-use devices::{Input, Output};
+use engine_stages::{Decision, InputFault, KnownRules, RunFault, Verdict, finish};
 use gcg_read::read_rack;
+use io_devices::{Input, Output};
 use ref_tiles::Rules;
 use std::alloc::{AllocError, Global};
 
 /// The verdict that the bytes are not a rack.
 pub(crate) fn bad_rack(alloc: Global) -> Result<Decision, AllocError>
-    ensures { IfOk result (λ d. IsTold verdict.BadRack reports.bad_rack_line d.verdict d.report.items) }
+    ensures { IfOk result (λ d. IsReported verdict.BadRack reports.bad_rack_line d.verdict d.report.items) }
 {
     Decision::refused(alloc, InputFault::Rack)
 }
 
 /// The same as the decision of a call.
 fn decide_bad_rack(alloc: Global) -> Result<Decision, RunFault>
-    ensures told { IfOk result (λ d. IsTold verdict.BadRack reports.bad_rack_line d.verdict d.report.items) }
+    ensures reported { IfOk result (λ d. IsReported verdict.BadRack reports.bad_rack_line d.verdict d.report.items) }
     ensures memory { IfErr result (λ fault. fault ≡ NoMemory) }
 {
     Ok(bad_rack(alloc)?)

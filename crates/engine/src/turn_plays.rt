@@ -1,15 +1,15 @@
 //! The best plays before a line of a record.
 ghost use Rattle.std.specs.Prelude.{◌≡◌, ◌≤◌, Some, None, length, IfOk, IfSome};
 ghost use Rattle.std.specs.Option.{option_copied};
-ghost use Rattle.game_report.specs.TopPlays.{TellsFirst};
+ghost use Rattle.game_report.specs.TopPlays.{ReportsFirst};
 ghost use Rattle.lex_check.specs.Pairs.{list_in};
-ghost use Rattle.call_stages.specs.declared.verdicts.Verdict.TheVariants as verdict;
+ghost use Rattle.engine_stages.specs.declared.verdicts.Verdict.TheVariants as verdict;
 ghost use Rattle.engine.specs.TopBefore.{rack_asked, shown_rack, given_rack, ByRackAsked, ByPlaceAsked, IsToppedBefore};
 
 use crate::boards::{bad_line, place_asked};
 use crate::judging::illegal;
 use crate::topping::bad_rack;
-use call_stages::{AskedGame, Decision, GameFault, GameQuestion, Verdict};
+use engine_stages::{AskedGame, Decision, GameFault, GameQuestion, Verdict};
 use game_report::best_lines;
 use game_turns::board_before;
 use gcg_read::{Event, read_rack};
@@ -73,7 +73,7 @@ pub fn rack_asked(given: Option<Counts>, event: Option<&Event>) -> Option<Counts
 }
 
 /// The best plays by a rack on a board.
-fn tell_first(
+fn report_first(
     alloc: Global,
     asked: &AskedGame<'_>,
     board: &Board,
@@ -81,7 +81,7 @@ fn tell_first(
     number: usize,
 ) -> Result<Decision, AllocError>
     requires { number ≤ 100 }
-    ensures { IfOk result (λ d. (d.verdict ≡ verdict.Done) × TellsFirst number asked.now.rules.now (list_in asked.now.pair.now) board.now rack.now d.report.items) }
+    ensures { IfOk result (λ d. (d.verdict ≡ verdict.Done) × ReportsFirst number asked.now.rules.now (list_in asked.now.pair.now) board.now rack.now d.report.items) }
 {
     let report = best_lines(alloc, asked.rules, asked.pair, board, rack, number)?;
     Ok(Decision {
@@ -92,7 +92,7 @@ fn tell_first(
 }
 
 /// The best plays by a rack on the board before a place, or the verdict that an event before it is not allowed.
-fn tell_before(
+fn report_before(
     alloc: Global,
     asked: &AskedGame<'_>,
     place: usize,
@@ -105,13 +105,13 @@ fn tell_before(
 {
     let events = asked.record.events.as_slice();
     match board_before(asked.rules, events, asked.pair.list(), place) {
-        Ok(board) => tell_first(alloc, asked, &board, rack, number),
+        Ok(board) => report_first(alloc, asked, &board, rack, number),
         Err((line, fault)) => illegal(alloc, line, GameFault::Rule(fault)),
     }
 }
 
 /// The same by the rack of the question; if there is none, that is the verdict.
-fn tell_by_rack(
+fn report_by_rack(
     alloc: Global,
     asked: &AskedGame<'_>,
     place: usize,
@@ -121,13 +121,13 @@ fn tell_by_rack(
     ensures { IfOk result (λ d. ByPlaceAsked question.now.number asked.now.rules.now (list_in asked.now.pair.now) asked.now.record.now question.now.rack (Some place) d.verdict d.report.items) }
 {
     match rack_asked(question.rack, asked.record.events.as_slice().get(place)) {
-        Some(rack) => tell_before(alloc, asked, place, &rack, question.number),
+        Some(rack) => report_before(alloc, asked, place, &rack, question.number),
         None => bad_rack(alloc),
     }
 }
 
 /// The same before the line of the question; if there is none, that is the verdict.
-fn tell_by_line(
+fn report_by_line(
     alloc: Global,
     asked: &AskedGame<'_>,
     question: &TurnPlays,
@@ -135,19 +135,19 @@ fn tell_by_line(
     ensures { IfOk result (λ d. IsToppedBefore question.now.number question.now.before asked.now.rules.now (list_in asked.now.pair.now) question.now.rack asked.now.record.now d.verdict d.report.items) }
 {
     match place_asked(asked.record.events.as_slice(), question.before) {
-        Some(place) => tell_by_rack(alloc, asked, place, question),
+        Some(place) => report_by_rack(alloc, asked, place, question),
         None => bad_line(alloc),
     }
 }
 
 impl GameQuestion for TurnPlays {
     ghost use Rattle.engine.specs.TopBefore.{IsToppedBefore};
-    ghost use Rattle.engine.specs.TurnPlayLaws.{topped_before_own};
+    ghost use Rattle.engine.specs.laws.TurnPlays.{topped_before_own};
 
     ghost is_decided = { λ question rules words game v report. IsToppedBefore question.number question.before rules words question.rack game v report };
 
     fn decide(&self, alloc: Global, asked: &AskedGame<'_>) -> Result<Decision, AllocError> {
-        tell_by_line(alloc, asked, self)
+        report_by_line(alloc, asked, self)
     }
 
     ghost own = { λ question rules words game v report is. topped_before_own question.number question.before rules words question.rack game v report is };

@@ -1,9 +1,9 @@
 //! The board before a line, with the squares of a play in brackets.
 
 use crate::words::push_play;
-use explanations::Shown;
-use sentence_parts::{Part, say, say_of_line};
-use shown_plays::ShownSquare;
+use explain_events::Shown;
+use explain_parts::{Part, say, say_of_line};
+use explain_plays::ShownSquare;
 use std::alloc::AllocError;
 
 /// How many squares a row has.
@@ -44,7 +44,7 @@ fn push_squares(text: &mut Vec<u8>, row: &[ShownSquare]) -> Result<(), AllocErro
 }
 
 /// Appends the number of a row.
-fn push_number(text: &mut Vec<u8>, number: usize) -> Result<(), AllocError> {
+fn push_row_number(text: &mut Vec<u8>, number: usize) -> Result<(), AllocError> {
     say(
         text,
         &[
@@ -58,7 +58,7 @@ fn push_number(text: &mut Vec<u8>, number: usize) -> Result<(), AllocError> {
 fn push_board(text: &mut Vec<u8>, squares: &[ShownSquare]) -> Result<(), AllocError> {
     text.extend_from_slice(b"   A B C D E F G H I J K L M N O\n")?;
     for row in 0..SIDE {
-        push_number(text, row + 1)?;
+        push_row_number(text, row + 1)?;
         push_squares(
             text,
             squares.get(SIDE * row..SIDE * row + SIDE).unwrap_or(&[]),

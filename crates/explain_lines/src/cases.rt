@@ -1,17 +1,17 @@
 //! What explains a case.
 ghost use Rattle.std.specs.Prelude.{◌≡◌, ◌++◌, OnOk};
-ghost use Rattle.case_openings.specs.Openings.{opening, GoesOn};
+ghost use Rattle.explain_openings.specs.Openings.{opening, GoesOn};
 
 use crate::boards::push_shown;
 use crate::facts::push_facts;
-use case_openings::push_opening;
-use explanations::{Explanation, Picture};
-use game_case::Case;
-use gcg_read::{Players, ReadFault};
-use record_sentences::{
+use explain_events::{Explanation, Picture};
+use explain_openings::push_opening;
+use explain_parts::say_of_line;
+use explain_records::{
     push_fault_sentences, push_other_faults, push_time_racks, push_unread_lines,
 };
-use sentence_parts::say_of_line;
+use game_case::Case;
+use gcg_read::{Players, ReadFault};
 use std::alloc::{AllocError, Global};
 
 /// Appends what explains the verdict on a record, or one of its lines: the verdict line; the line as it is in the file; which lines are not read
@@ -53,8 +53,8 @@ fn sentences_of(
         Ok(entry) => {
             push_unread_lines(alloc, &mut text, bytes)?;
             push_time_racks(&mut text, bytes)?;
-            if let Some(told) = explanation {
-                push_told(&mut text, &entry.record.players, told)?;
+            if let Some(reported) = explanation {
+                push_reported(&mut text, &entry.record.players, reported)?;
             }
         }
         Err(fault) => push_faults(alloc, &mut text, bytes, *fault)?,
@@ -75,12 +75,16 @@ fn push_faults(
 }
 
 /// Appends an explanation after its opening: the facts, and what is shown with them.
-fn push_told(text: &mut Vec<u8>, players: &Players, told: &Explanation) -> Result<(), AllocError> {
-    push_facts(text, players, told)?;
-    let Some(line) = told.line else {
+fn push_reported(
+    text: &mut Vec<u8>,
+    players: &Players,
+    reported: &Explanation,
+) -> Result<(), AllocError> {
+    push_facts(text, players, reported)?;
+    let Some(line) = reported.line else {
         return Ok(());
     };
-    match &told.picture {
+    match &reported.picture {
         None => Ok(()),
         Some(Picture::Unknown { line }) => say_of_line(
             text,

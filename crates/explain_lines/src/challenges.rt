@@ -2,9 +2,9 @@
 
 use crate::names::nick;
 use crate::spelling::push_words;
-use event_facts::{ChallengeFact, Spelled};
+use explain_facts::{ChallengeFact, Spelled};
+use explain_parts::{Part, say, say_of_line};
 use gcg_read::{Players, Seat};
-use sentence_parts::{Part, say, say_of_line};
 use std::alloc::AllocError;
 
 /// Appends what the word list says of the play before, and the words of that play.

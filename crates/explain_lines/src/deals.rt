@@ -1,9 +1,9 @@
 //! Deals of the tiles, and racks that no deal gives.
 
 use crate::names::nick;
-use event_facts::{ClashLine, DealFact, ExchangeLine};
+use explain_facts::{ClashLine, DealFact, ExchangeLine};
+use explain_parts::{Part, push_tiles, say, say_of_line};
 use gcg_read::Players;
-use sentence_parts::{Part, push_tiles, say, say_of_line};
 use std::alloc::AllocError;
 
 /// Appends which tiles and lines already cannot be together.

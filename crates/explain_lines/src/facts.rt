@@ -12,8 +12,8 @@ use crate::tiles::push_tile_fact;
 use crate::totals::push_total_fact;
 use crate::turns::push_turn_fact;
 use crate::wholes::push_game_fact;
-use event_facts::Fact;
-use explanations::Explanation;
+use explain_events::Explanation;
+use explain_facts::Fact;
 use gcg_read::Players;
 use std::alloc::AllocError;
 
@@ -21,9 +21,9 @@ use std::alloc::AllocError;
 pub fn push_facts(
     text: &mut Vec<u8>,
     players: &Players,
-    told: &Explanation,
+    reported: &Explanation,
 ) -> Result<(), AllocError> {
-    for fact in told.facts.as_slice() {
+    for fact in reported.facts.as_slice() {
         push_fact(text, players, fact)?;
     }
     Ok(())

@@ -1,9 +1,9 @@
 //! Lines that are there twice, in the wrong order or under the wrong name, and lines that are missing.
 
 use crate::names::nick;
-use event_facts::OrderFact;
+use explain_facts::OrderFact;
+use explain_parts::{Part, say, say_of_line};
 use gcg_read::{Players, Seat};
-use sentence_parts::{Part, say, say_of_line};
 use std::alloc::AllocError;
 
 /// Appends that a line and the next one are allowed the other way round.

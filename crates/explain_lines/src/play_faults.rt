@@ -1,8 +1,8 @@
 //! What is wrong with the text or the placement of a play.
 
-use event_facts::PlayFact;
+use explain_facts::PlayFact;
+use explain_parts::{Part, say};
 use ref_board::{Dir, Square};
-use sentence_parts::{Part, say};
 use std::alloc::AllocError;
 
 /// The name of a line of a direction.

@@ -1,10 +1,10 @@
 //! What is wrong with what the lines show of a rack or of a kind of tile.
 
 use crate::names::nick;
-use event_facts::{KindLine, Leaving, RackFact, RackLine};
+use explain_facts::{KindLine, Leaving, RackFact, RackLine};
+use explain_parts::{Part, push_tiles, say, say_of_line};
 use gcg_read::{Players, Seat};
 use ref_tiles::{Counts, Kind};
-use sentence_parts::{Part, push_tiles, say, say_of_line};
 use std::alloc::AllocError;
 
 /// Appends that a rack would have more tiles than its player has.
@@ -44,13 +44,13 @@ fn push_too_few(text: &mut Vec<u8>, kind: Kind, has: usize) -> Result<(), AllocE
 fn push_left_over(
     text: &mut Vec<u8>,
     before: u32,
-    left: &Counts,
+    remaining: &Counts,
     after: u32,
     kind: Kind,
     has: usize,
 ) -> Result<(), AllocError> {
     say_of_line(text, "After line ", before, " ")?;
-    push_tiles(text, left)?;
+    push_tiles(text, remaining)?;
     say_of_line(text, " is left, but line ", after, " has ")?;
     push_too_few(text, kind, has)
 }
@@ -184,12 +184,12 @@ pub fn push_rack_fact(
     match fact {
         RackFact::LeftOver {
             before,
-            left,
+            remaining,
             after,
             kind,
             has,
             ..
-        } => push_left_over(text, *before, left, *after, *kind, *has),
+        } => push_left_over(text, *before, remaining, *after, *kind, *has),
         RackFact::TooBig {
             player,
             size,

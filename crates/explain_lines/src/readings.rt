@@ -1,10 +1,10 @@
 //! A play with another tile in one place: tiles that are not on the rack, one tile that was read as another, and a blank as a letter.
 
 use crate::spelling::push_words;
-use event_facts::{ReadingFact, Spelled};
+use explain_facts::{ReadingFact, Spelled};
+use explain_parts::{Part, say};
 use ref_board::Square;
 use ref_tiles::{Counts, Kind};
-use sentence_parts::{Part, say};
 use std::alloc::AllocError;
 
 /// Appends the score that a play has, and the one that is written, if it is another one.

@@ -1,7 +1,7 @@
 //! Whether the rules allow an event.
 
-use event_facts::RulingFact;
-use sentence_parts::say_of_line;
+use explain_facts::RulingFact;
+use explain_parts::say_of_line;
 use std::alloc::AllocError;
 
 /// Appends whether the rules allow an event.

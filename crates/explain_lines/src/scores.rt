@@ -1,11 +1,11 @@
 //! A score that is not the right one, and where it would be right.
 
 use crate::names::nick;
-use event_facts::ScoreFact;
-use game_facts::Spot;
+use explain_clues::Spot;
+use explain_facts::ScoreFact;
+use explain_parts::{Part, push_tiles, say};
 use gcg_read::{Players, Seat};
 use ref_tiles::Counts;
-use sentence_parts::{Part, push_tiles, say};
 use std::alloc::AllocError;
 
 /// Appends the right score and the written one.

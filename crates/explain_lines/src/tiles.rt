@@ -1,9 +1,9 @@
 //! Events with more tiles than there are.
 
 use crate::names::nick;
-use event_facts::TileFact;
+use explain_facts::TileFact;
+use explain_parts::{Part, say};
 use gcg_read::{Players, Seat};
-use sentence_parts::{Part, say};
 use std::alloc::AllocError;
 
 /// Appends that a play uses more tiles than its player has.

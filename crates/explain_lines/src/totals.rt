@@ -1,9 +1,9 @@
 //! A total that is not the right one, and penalties for time.
 
 use crate::names::nick;
-use event_facts::TotalFact;
+use explain_facts::TotalFact;
+use explain_parts::{Part, say};
 use gcg_read::{Players, Seat};
-use sentence_parts::{Part, say};
 use std::alloc::AllocError;
 
 /// The numbers of a total.
@@ -40,7 +40,7 @@ fn push_total(
 }
 
 /// Appends the turn that a total leaves out.
-fn push_left_out(text: &mut Vec<u8>, line: u32, score: i32) -> Result<(), AllocError> {
+fn push_omitted(text: &mut Vec<u8>, line: u32, score: i32) -> Result<(), AllocError> {
     say(
         text,
         &[
@@ -110,7 +110,7 @@ pub fn push_total_fact(
         TotalFact::LeavesOutOwn => {
             text.extend_from_slice(b"The written total leaves out the score of this line.\n")
         }
-        TotalFact::LeavesOut { line, score } => push_left_out(text, *line, *score),
+        TotalFact::LeavesOut { line, score } => push_omitted(text, *line, *score),
         TotalFact::TimeStep { step, written } => push_step(text, *step, *written),
         TotalFact::SecondTime { player, line } => push_second_time(text, players, *player, *line),
     }

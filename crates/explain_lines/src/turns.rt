@@ -1,9 +1,9 @@
 //! Whose turn it is, and whether there are any more.
 
 use crate::names::nick;
-use event_facts::TurnFact;
+use explain_facts::TurnFact;
+use explain_parts::{Part, say};
 use gcg_read::{Players, Seat};
-use sentence_parts::{Part, say};
 use std::alloc::AllocError;
 
 /// Appends on whose line a last rack has to be.

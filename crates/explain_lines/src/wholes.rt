@@ -2,9 +2,9 @@
 
 use crate::names::nick;
 use crate::spelling::{push_lines, push_words};
-use event_facts::{GameFact, RackPart, UnlistedPlay};
+use explain_facts::{GameFact, RackPart, UnlistedPlay};
+use explain_parts::{Part, say};
 use gcg_read::Players;
-use sentence_parts::{Part, say};
 use std::alloc::AllocError;
 
 /// Appends a play that stands with words that are not in the list.

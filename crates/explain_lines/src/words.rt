@@ -1,9 +1,9 @@
 //! The words of a play, square by square.
 
+use explain_parts::{Part, say};
+use explain_plays::{PlayedSquare, PlayedWord, ScoredPlay};
 use game_board::tile_mark;
 use ref_tiles::Premium;
-use sentence_parts::{Part, say};
-use shown_plays::{PlayedSquare, PlayedWord, ScoredPlay};
 use std::alloc::AllocError;
 
 /// Appends the words of a play: the squares and the sum of each, the bonus, and what the play scores.

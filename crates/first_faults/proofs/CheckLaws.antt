@@ -64,10 +64,10 @@ nowhere {F} (Some fault ∷ checks) = (
   λ all. absurd (some_fault fault (All-head (λ (check : Option F). check ≡ None) (Some fault) checks all)),
 )
 
-first_after : {F : Type 0} (before behind : List (Option F)) (fault : F) → first_fault before ≡ None → first_fault (before ++ Some fault ∷ behind) ≡ Some fault
-first_after [] behind fault e = refl
-first_after (None ∷ before) behind fault e = first_after before behind fault e
-first_after (Some other ∷ before) behind fault e = absurd (some_fault other e)
+first_after : {F : Type 0} (before following : List (Option F)) (fault : F) → first_fault before ≡ None → first_fault (before ++ Some fault ∷ following) ≡ Some fault
+first_after [] following fault e = refl
+first_after (None ∷ before) following fault e = first_after before following fault e
+first_after (Some other ∷ before) following fault e = absurd (some_fault other e)
 
 first_is : {F : Type 0} (checks : List (Option F)) (fault : F) → first_fault checks ≡ Some fault → IsFirstFault checks fault
 first_is [] fault e = cc
@@ -75,15 +75,15 @@ first_is {F} (None ∷ checks) fault e =
     let rest = first_is checks fault e in
     record {
       before = None ∷ rest.before;
-      behind = rest.behind;
+      following = rest.following;
       whole = ap (λ (xs : List (Option F)). None ∷ xs) rest.whole;
       earlier = All-cons (λ (check : Option F). check ≡ None) None rest.before refl rest.earlier;
     }
 first_is {F} (Some other ∷ checks) fault e =
-    record { before = []; behind = checks; whole = ap (λ (check : Option F). check ∷ checks) (sym e); earlier = All-nil (λ (check : Option F). check ≡ None) }
+    record { before = []; following = checks; whole = ap (λ (check : Option F). check ∷ checks) (sym e); earlier = All-nil (λ (check : Option F). check ≡ None) }
 
 pub first : {F : Type 0} → FaultIsFirst F
 first {F} checks fault = (
   λ e. first_is checks fault e,
-  λ is. ap first_fault (sym is.whole) ∙ first_after is.before is.behind fault ((nowhere is.before).1 is.earlier),
+  λ is. ap first_fault (sym is.whole) ∙ first_after is.before is.following fault ((nowhere is.before).1 is.earlier),
 )

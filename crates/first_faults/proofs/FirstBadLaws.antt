@@ -34,16 +34,16 @@ module _ {X W F : Type 0} (named : ℕ → W → F) (check : List X → X → Op
       by None here later e = subst (λ items. IsFirstBad named check items fault) (append_assoc before (item ∷ []) rest) (later here e)
       by (Some why) here later e =
           let is : named (length before + 1) why ≡ fault = cc in
-          record { before = before; item = item; behind = rest; why = why; whole = refl; earlier = none; fails = here; is = sym is }
+          record { before = before; item = item; following = rest; why = why; whole = refl; earlier = none; fails = here; is = sym is }
 
   -- the first fault of items is that of the first item with one
   pub first_bad-is : (items : List X) (fault : F) → first_bad named check [] items ≡ Some fault → IsFirstBad named check items fault
   first_bad-is items fault e = first_from [] items fault refl e
 
   -- if the items so far have the fault of all items, and no more are left, they are all of them, and none has a fault
-  pub none_left : (items before behind : List X) → behind ≡ [] → first_bad named check before behind ≡ first_bad named check [] items → before ++ behind ≡ items
+  pub none_remaining : (items before following : List X) → following ≡ [] → first_bad named check before following ≡ first_bad named check [] items → before ++ following ≡ items
       → (first_bad named check [] items ≡ None) × (before ≡ items)
-  none_left items before behind none same whole = (
+  none_remaining items before following none same whole = (
     sym same ∙ ap (first_bad named check before) none,
     sym (append-nil before) ∙ ap (λ rest. before ++ rest) (sym none) ∙ whole,
   )

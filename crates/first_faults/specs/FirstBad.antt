@@ -15,9 +15,9 @@ module _ {X W F : Type 0} (named : ℕ → W → F) (check : List X → X → Op
   pub record IsFirstBad (items : List X) (fault : F) : Type 0 where
     pub before : List X
     pub item : X
-    pub behind : List X
+    pub following : List X
     pub why : W
-    pub whole : before ++ item ∷ behind ≡ items
+    pub whole : before ++ item ∷ following ≡ items
     pub earlier : first_bad [] before ≡ None
     pub fails : check before item ≡ Some why
     pub is : fault ≡ named (length before + 1) why

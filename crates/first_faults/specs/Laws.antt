@@ -9,8 +9,8 @@ HaveNoFault {F} checks = All (λ (check : Option F). check ≡ None) checks
 -- a check has this fault, and those before it have none
 pub record IsFirstFault {F : Type 0} (checks : List (Option F)) (fault : F) : Type 0 where
   pub before : List (Option F)
-  pub behind : List (Option F)
-  pub whole : before ++ Some fault ∷ behind ≡ checks
+  pub following : List (Option F)
+  pub whole : before ++ Some fault ∷ following ≡ checks
   pub earlier : HaveNoFault before
 
 -- there is no first fault exactly when no check has a fault

@@ -8,17 +8,17 @@ use Rattle.game_turns.specs.declared.machine.Machine.{Machine}
 use Rattle.game_turns.specs.LatestEvents.{latest_tiles, standing_words}
 use Rattle.game_turns.specs.Machines.{rules_of, state_of}
 use Rattle.game_turns.specs.Tallies.{State, tally, tally_at}
-use Rattle.known_bests.specs.declared.besides.Beside.{Beside}
-use Rattle.known_bests.specs.Besides.{IsBeside}
+use Rattle.game_known.specs.declared.besides.Beside.{Beside}
+use Rattle.game_known.specs.Besides.{IsBeside}
 use Rattle.game_report.proofs.ReportLines.{start_of_game, read_there}
 use Rattle.game_answers.specs.declared.answers.EventAnswer.{EventAnswer}
-use Rattle.event_notes.specs.declared.bests.TurnBest.{TurnBest}
+use Rattle.game_bests.specs.declared.bests.TurnBest.{TurnBest}
 use Rattle.game_answers.specs.Answers.{tiles_in, IsAnswerAt, AreAnswersTo}
-use Rattle.event_notes.specs.Bests.{IsTurnBest}
-use Rattle.score_sheets.specs.Gains.{given_at}
+use Rattle.game_bests.specs.Bests.{IsTurnBest}
+use Rattle.sheet_scores.specs.Gains.{given_at}
 use Rattle.game_answers.specs.Going.{HasTaken}
 use Rattle.game_answers.specs.Letters.{word_of}
-use Rattle.event_notes.specs.Unlisted.{letters_in, unlisted_of}
+use Rattle.game_bests.specs.Unlisted.{letters_in, unlisted_of}
 
 append_within : {X : Type 0} (xs : List X) (x y : X) (k : ℕ) → slice_get (xs ++ x ∷ []) k ≡ Some y → k < length xs → slice_get xs k ≡ Some y
 append_within [] x y k is within = absurd (omega arith)
@@ -75,14 +75,14 @@ answers_more rules list events place answers more a are at pushed =
 by_states : (rules : Rules) (list : List (List ℕ)) (events : List Event) (place : ℕ) (e : Event) (s t : State) (a : EventAnswer) → slice_get events place ≡ Some e → s ≡ tally_at rules events place
     → t ≡ tally_at rules events (place + 1) → IsTurnBest rules list s e (given_at events place e) a.best → tiles_in a.play ≡ latest_tiles t.latest → a.word.items ≡ word_of t.board e.kind
     → letters_in a.unlisted.items ≡ unlisted_of list (standing_words t.latest) → IsAnswerAt rules list events place a
-by_states rules list events place e s t a stands before behind best tiles word unlisted =
+by_states rules list events place e s t a stands before following best tiles word unlisted =
     record {
       event = e;
       stands = stands;
       best = subst (λ (x : State). IsTurnBest rules list x e (given_at events place e) a.best) before best;
-      tiles = tiles ∙ ap (λ (x : State). latest_tiles x.latest) behind;
-      word = word ∙ ap (λ (x : State). word_of x.board e.kind) behind;
-      unlisted = unlisted ∙ ap (λ (x : State). unlisted_of list (standing_words x.latest)) behind;
+      tiles = tiles ∙ ap (λ (x : State). latest_tiles x.latest) following;
+      word = word ∙ ap (λ (x : State). word_of x.board e.kind) following;
+      unlisted = unlisted ∙ ap (λ (x : State). unlisted_of list (standing_words x.latest)) following;
     }
 
 -- the best play by equal rules
@@ -90,17 +90,17 @@ pub best_by_own : (own rules : Rules) (list : List (List ℕ)) (st : State) (e :
 best_by_own own rules list st e gave b same is = subst (λ (r : Rules). IsTurnBest r list st e gave b) same is
 
 -- The machine before the event, and after it; `game` is the record as it was lent, and `listed` the list.
-pub answer_is : (rules : Rules) (list listed : List (List ℕ)) (game r : Record) (shown : List Event) (place : ℕ) (e : Event) (before behind : Machine) (gave : ℤ) (b : TurnBest)
-    (a : EventAnswer) → state_of before ≡ tally_at rules r.events place → state_of behind ≡ tally_at rules r.events (place + 1) → game ≡ r → shown ≡ game.events → listed ≡ list
+pub answer_is : (rules : Rules) (list listed : List (List ℕ)) (game r : Record) (shown : List Event) (place : ℕ) (e : Event) (before following : Machine) (gave : ℤ) (b : TurnBest)
+    (a : EventAnswer) → state_of before ≡ tally_at rules r.events place → state_of following ≡ tally_at rules r.events (place + 1) → game ≡ r → shown ≡ game.events → listed ≡ list
     → place < length r.events → e ≡ get_or shown place e → gave ≡ given_at shown place e → IsTurnBest rules list (state_of before) e gave b → a.best ≡ b
-    → tiles_in a.play ≡ latest_tiles (state_of behind).latest → a.word.items ≡ word_of (state_of behind).board e.kind
-    → letters_in a.unlisted.items ≡ unlisted_of listed (standing_words (state_of behind).latest) → IsAnswerAt rules list r.events place a
-answer_is rules list listed game r shown place e before behind gave b a stood stand same shows lists below read gives best kept tiles word unlisted =
+    → tiles_in a.play ≡ latest_tiles (state_of following).latest → a.word.items ≡ word_of (state_of following).board e.kind
+    → letters_in a.unlisted.items ≡ unlisted_of listed (standing_words (state_of following).latest) → IsAnswerAt rules list r.events place a
+answer_is rules list listed game r shown place e before following gave b a stood stand same shows lists below read gives best kept tiles word unlisted =
     let all : shown ≡ r.events = shows ∙ ap (λ (g : Record). g.events) same in
     let given : gave ≡ given_at r.events place e = gives ∙ ap (λ (es : List Event). given_at es place e) all in
-    by_states rules list r.events place e (state_of before) (state_of behind) a (read_there shown r.events place e all below read) stood stand
+    by_states rules list r.events place e (state_of before) (state_of following) a (read_there shown r.events place e all below read) stood stand
     (subst (λ (x : TurnBest). IsTurnBest rules list (state_of before) e (given_at r.events place e) x) (sym kept) (subst (λ (n : ℤ). IsTurnBest rules list (state_of before) e n b) given best))
-    tiles word (unlisted ∙ ap (λ (ws : List (List ℕ)). unlisted_of ws (standing_words (state_of behind).latest)) lists)
+    tiles word (unlisted ∙ ap (λ (ws : List (List ℕ)). unlisted_of ws (standing_words (state_of following).latest)) lists)
 
 -- ---- before the first event
 

@@ -11,13 +11,13 @@ use Rattle.ref_play.proofs.Ranges.{map_range_more}
 use Rattle.gcg_read.specs.declared.events.Event.{Event}
 use Rattle.gcg_read.specs.declared.events.Seat.TheVariants.{First, Second}
 use Rattle.gcg_read.specs.declared.records.Record.{Record}
-use Rattle.game_sheets.specs.WrongNumbers.{had_before}
+use Rattle.game_corrections.specs.WrongNumbers.{had_before}
 use Rattle.game_board.specs.Laying.{board_before, AreLaid}
 use Rattle.game_board.specs.Tiles.{kinds_off, all_off}
 use Rattle.engine.specs.TopBefore.{shown_rack}
 use Rattle.game_answers.specs.declared.boards.ShownBoard.{ShownBoard}
 use Rattle.game_answers.specs.Boards.{row_marks, board_marks, line_at, IsShownBoard}
-use Rattle.game_answers.proofs.BoardTexts.{told_board}
+use Rattle.game_answers.proofs.BoardTexts.{reported_board}
 
 -- one more row
 pub row_more : (rules : Rules) (board : List (Option Tile)) (row : ℕ) (rows : List (ArrayVec ℕ)) (more : ArrayVec ℕ) → items_of rows ≡ board_marks rules board row
@@ -54,11 +54,11 @@ is_shown rules r asked end events event board b same laid standing there line ro
       rack = rack_is;
       off = off_is;
       off_in_all = all_is;
-      told = record {
+      reported = record {
         verdict_is = refl;
         end = end;
         why = b.fault;
         laid = laid_is;
-        shown = told_board rules r end b.fault b.line (items_of b.rows.items) b.players b.first b.second b.rack b.off_in_all b.off.items line_is rows_are players first_is second_is rack_is all_is off_is;
+        shown = reported_board rules r end b.fault b.line (items_of b.rows.items) b.players b.first b.second b.rack b.off_in_all b.off.items line_is rows_are players first_is second_is rack_is all_is off_is;
       };
     }

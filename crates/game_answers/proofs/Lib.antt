@@ -1,7 +1,7 @@
-pub mod Tellings
+pub mod Reportings
 pub mod AnswerLaws
 pub mod Lines
-pub mod LeftLaws
+pub mod RemainingLaws
 pub mod VerdictLaws
 pub mod PlayLaws
 pub mod TopLaws

@@ -8,42 +8,42 @@ use Rattle.gcg_read.specs.Players.{player_of}
 use Rattle.gcg_write.specs.Normal.{event_text_of}
 use Rattle.game_turns.specs.LatestEvents.{standing_words}
 use Rattle.game_turns.specs.Tallies.{tally_at}
-use Rattle.game_report.specs.BestPlays.{TellsBest, Appends}
+use Rattle.game_report.specs.BestPlays.{ReportsBest, Appends}
 use Rattle.game_report.specs.EventLines.{unlisted_text, line_with, event_line, IsEventLine, AreEventLines}
 use Rattle.game_report.proofs.ReportLines.{no_lines, one_more_line}
 use Rattle.game_answers.specs.declared.answers.EventAnswer.{EventAnswer}
 use Rattle.game_answers.specs.Answers.{IsAnswerAt, AreAnswersTo}
-use Rattle.score_sheets.specs.Gains.{given_at}
-use Rattle.event_notes.specs.Tellings.{best_told}
+use Rattle.sheet_scores.specs.Gains.{given_at}
+use Rattle.game_bests.specs.Reportings.{best_reported}
 use Rattle.game_answers.specs.Reports.{line_of, lines_to}
-use Rattle.event_notes.specs.Unlisted.{letters_in}
-use Rattle.game_answers.specs.Reports.{unlisted_told}
-use Rattle.event_notes.proofs.Tellings.{tells_best}
-use Rattle.game_answers.proofs.Tellings.{tells_unlisted}
+use Rattle.game_bests.specs.Unlisted.{letters_in}
+use Rattle.game_answers.specs.Reports.{unlisted_reported}
+use Rattle.game_bests.proofs.Reportings.{reports_best}
+use Rattle.game_answers.proofs.Reportings.{reports_unlisted}
 
 same_event : (events : List Event) (place : ℕ) (e f : Event) → slice_get events place ≡ Some e → slice_get events place ≡ Some f → e ≡ f
 same_event events place e f a b = let both : Some e ≡ Some f = sym a ∙ b in cc
 
 -- the line of an answer is the one of its event
 line_is : (rules : Rules) (list : List (List ℕ)) (r : Record) (place : ℕ) (answers : List EventAnswer) (a : EventAnswer) → slice_get answers place ≡ Some a → IsAnswerAt rules list r.events place a
-    → line_of r.players (slice_get r.events place) (slice_get answers place) ≡ event_line rules list r place (best_told a.best)
+    → line_of r.players (slice_get r.events place) (slice_get answers place) ≡ event_line rules list r place (best_reported a.best)
 unfolding event_line
 line_is rules list r place answers a there at =
     let e = at.event in
     let standing = standing_words (tally_at rules r.events (place + 1)).latest in
-    let unlisted : unlisted_told (letters_in a.unlisted.items) ≡ unlisted_text list standing = ap unlisted_told at.unlisted ∙ sym (tells_unlisted list standing) in
+    let unlisted : unlisted_reported (letters_in a.unlisted.items) ≡ unlisted_text list standing = ap unlisted_reported at.unlisted ∙ sym (reports_unlisted list standing) in
     ap (λ o. line_of r.players (slice_get r.events place) o) there
     ∙ ap (λ o. line_of r.players o (Some a)) at.stands
-    ∙ ap (λ t. decimal e.line ++ 32 ∷ (player_of r.players e.player).nick ++ 32 ∷ event_text_of e ++ (best_told a.best ++ t) ++ 10 ∷ []) unlisted
-    ∙ sym (ap (λ o. line_with r.players o (best_told a.best ++ unlisted_text list standing)) at.stands)
+    ∙ ap (λ t. decimal e.line ++ 32 ∷ (player_of r.players e.player).nick ++ 32 ∷ event_text_of e ++ (best_reported a.best ++ t) ++ 10 ∷ []) unlisted
+    ∙ sym (ap (λ o. line_with r.players o (best_reported a.best ++ unlisted_text list standing)) at.stands)
 
 is_line : (rules : Rules) (list : List (List ℕ)) (r : Record) (place : ℕ) (answers : List EventAnswer) (a : EventAnswer) → slice_get answers place ≡ Some a → IsAnswerAt rules list r.events place a
     → IsEventLine rules list r place (line_of r.players (slice_get r.events place) (slice_get answers place))
 is_line rules list r place answers a there at =
     record {
-      best = best_told a.best;
-      tells = λ f stands. subst (λ (x : Event). TellsBest rules list (tally_at rules r.events place) x (best_told a.best)) (same_event r.events place at.event f at.stands stands)
-          (tells_best rules list (tally_at rules r.events place) at.event (given_at r.events place at.event) a.best at.best);
+      best = best_reported a.best;
+      reports = λ f stands. subst (λ (x : Event). ReportsBest rules list (tally_at rules r.events place) x (best_reported a.best)) (same_event r.events place at.event f at.stands stands)
+          (reports_best rules list (tally_at rules r.events place) at.event (given_at r.events place at.event) a.best at.best);
       is = line_is rules list r place answers a there at;
     }
 
@@ -62,7 +62,7 @@ are_lines rules list r many answers d are (suc first) within =
     subst (λ n. Appends (AreEventLines rules list r n) [] (lines_to r.players r.events answers (suc first))) step
     (one_more_line rules list r [] (lines_to r.players r.events answers first) (lines_to r.players r.events answers (suc first)) first
     (are_lines rules list r many answers d are first (omega arith))
-    (record { told = line_of r.players (slice_get r.events first) (slice_get answers first); is_told = at_place rules list r many first answers (get_or answers first d) are (omega arith) there; behind = refl }))
+    (record { reported = line_of r.players (slice_get r.events first) (slice_get answers first); is_reported = at_place rules list r many first answers (get_or answers first d) are (omega arith) there; following = refl }))
 
 -- without a default: if there is an answer, it is one; otherwise there are no events
 by_list : (rules : Rules) (list : List (List ℕ)) (r : Record) (many : ℕ) (answers all : List EventAnswer) → all ≡ answers → AreAnswersTo rules list r.events many answers
@@ -76,4 +76,4 @@ pub lines_of_answers : (rules : Rules) (list : List (List ℕ)) (r : Record) (ma
     → AreEventLines rules list r many (lines_to r.players r.events answers many)
 lines_of_answers rules list r many answers are =
     let lines = by_list rules list r many answers answers refl are in
-    subst (AreEventLines rules list r many) (sym lines.behind) lines.is_told
+    subst (AreEventLines rules list r many) (sym lines.following) lines.is_reported

@@ -5,13 +5,13 @@ use Rattle.gcg_read.specs.declared.events.Event.{Event}
 use Rattle.gcg_read.specs.declared.records.Record.{Record}
 use Rattle.game_turns.specs.declared.faults.RuleFault.{RuleFault}
 use Rattle.game_turns.specs.Places.{AreAllowed, IsFirstRefusal}
-use Rattle.call_stages.specs.declared.verdicts.Verdict.{Verdict}
-use Rattle.call_stages.specs.declared.verdicts.Verdict.TheVariants as verdict
+use Rattle.engine_stages.specs.declared.verdicts.Verdict.{Verdict}
+use Rattle.engine_stages.specs.declared.verdicts.Verdict.TheVariants as verdict
 use Rattle.engine.specs.declared.judging.Judging.{Judging}
 use Rattle.game_case.specs.declared.findings.Finding.{Finding}
 use Rattle.game_case.specs.declared.findings.Finding.TheVariants as finding
 use Rattle.game_case.specs.Explaining.{verdict_in}
-use Rattle.engine.specs.Judging.{IsToldLegal}
+use Rattle.engine.specs.Judging.{IsReportedLegal}
 use Rattle.engine.specs.Settling.{IsFoundBy, IsJudgedBy}
 use Rattle.game_turns.proofs.PlaceLaws.{first_not_allowed}
 use Rattle.engine.proofs.Settled as settled
@@ -21,16 +21,16 @@ use Rattle.game_answers.specs.declared.leaving.GameAnswers.{GameAnswers}
 use Rattle.game_answers.specs.Answers.{AreAnswersTo}
 use Rattle.game_answers.specs.Bounds.{legal_verdict, refused_verdict}
 use Rattle.game_answers.specs.Games.{IsVerdictOn, IsVerdict, AreAnswered, IsJudged, report_of}
-use Rattle.game_answers.specs.Leaving.{AreLeft}
+use Rattle.game_answers.specs.Leaving.{AreRemaining}
 use Rattle.game_answers.specs.Reports.{lines_to, report_by}
 use Rattle.game_answers.proofs.Lines.{lines_of_answers}
 
 -- ---- the report of a verdict, with the lines of the events
 
-legal_told : (rules : Rules) (words : List (List ℕ)) (r : Record) (v : Verdict) (lines : List ℕ) → v ≡ legal_verdict rules r.events → AreEventLines rules words r (length r.events) lines
-    → IsToldLegal rules words r v (report_by v lines)
-legal_told rules words r v lines is are =
-    record { verdict_is = is; told = record { told = lines; is_told = are; behind = ap (λ (x : Verdict). report_by x lines) is } }
+legal_reported : (rules : Rules) (words : List (List ℕ)) (r : Record) (v : Verdict) (lines : List ℕ) → v ≡ legal_verdict rules r.events → AreEventLines rules words r (length r.events) lines
+    → IsReportedLegal rules words r v (report_by v lines)
+legal_reported rules words r v lines is are =
+    record { verdict_is = is; reported = record { reported = lines; is_reported = are; following = ap (λ (x : Verdict). report_by x lines) is } }
 
 verdict_of : (question : Judging) (rules : Rules) (words : List (List ℕ)) (r : Record) (f : Finding) → IsFoundBy question rules words r.events f
     → IsVerdictOn question rules words r (verdict_in f)
@@ -38,13 +38,13 @@ verdict_of question rules words r finding.NoGame is = absurd (settled.none_found
 verdict_of question rules words r (finding.Legal complete) is =
     let v = verdict.Legal complete in
     let same : v ≡ legal_verdict rules r.events = ap (λ (b : Bool). verdict.Legal b) (settled.found_complete question rules words r.events complete is) in
-    record { judged = λ lines are. settled.judged_legal question rules words r complete v (report_by v lines) is (legal_told rules words r v lines same are) }
+    record { judged = λ lines are. settled.judged_legal question rules words r complete v (report_by v lines) is (legal_reported rules words r v lines same are) }
 verdict_of question rules words r (finding.Illegal line fault) is =
     let v = verdict.Illegal line fault in
-    record { judged = λ lines are. settled.judged_illegal question rules words r line fault v (report_by v lines) is (record { verdict_is = refl; told = refl }) }
+    record { judged = λ lines are. settled.judged_illegal question rules words r line fault v (report_by v lines) is (record { verdict_is = refl; reported = refl }) }
 verdict_of question rules words r finding.Unsettled is =
     let v = verdict.Unsettled in
-    record { judged = λ lines are. settled.judged_open question rules words r v (report_by v lines) is (record { verdict_is = refl; told = refl }) }
+    record { judged = λ lines are. settled.judged_open question rules words r v (report_by v lines) is (record { verdict_is = refl; reported = refl }) }
 
 -- the verdict on a record in which the rules allow every event, by what is found of it
 pub verdict_by : (question : Judging) (rules : Rules) (words : List (List ℕ)) (r : Record) (f : Finding) (v : Verdict) → IsFoundBy question rules words r.events f → v ≡ verdict_in f
@@ -76,13 +76,13 @@ judged_with best question rules words r v a allowed on are =
 
 -- the answers that are asked for; `game` is the record as it was lent, and `shown` its events
 pub answered_all : (rules : Rules) (words : List (List ℕ)) (game r : Record) (shown : List Event) (answers : List EventAnswer) (a : GameAnswers) → AreAllowed rules words r.events
-    → AreAnswersTo rules words r.events (length r.events) answers → game ≡ r → shown ≡ game.events → a.events.items ≡ answers → AreLeft shown a
+    → AreAnswersTo rules words r.events (length r.events) answers → game ≡ r → shown ≡ game.events → a.events.items ≡ answers → AreRemaining shown a
     → AreAnswered true rules words r.events (Some a)
-answered_all rules words game r shown answers a allowed are same shows kept left =
+answered_all rules words game r shown answers a allowed are same shows kept remaining =
     let all : shown ≡ r.events = shows ∙ ap (λ (g : Record). g.events) same in (
       allowed,
       subst (λ (xs : List EventAnswer). AreAnswersTo rules words r.events (length r.events) xs) (sym kept) are,
-      subst (λ (es : List Event). AreLeft es a) all left,
+      subst (λ (es : List Event). AreRemaining es a) all remaining,
     )
 
 none_answered : (best : Bool) (rules : Rules) (words : List (List ℕ)) (events : List Event) → (AreAllowed rules words events → ⊥) → AreAnswered best rules words events None
@@ -92,7 +92,7 @@ none_answered false rules words events refused = refl
 refused_with : (best : Bool) (question : Judging) (rules : Rules) (words : List (List ℕ)) (r : Record) (line : ℕ) (why : RuleFault) → IsFirstRefusal rules words r.events line why
     → IsJudged best question rules words r (refused_verdict line why) None
 refused_with best question rules words r line why first =
-    let by = settled.judged_refused question rules words r line why (refused_verdict line why) (report_by (refused_verdict line why) []) first (record { verdict_is = refl; told = refl }) in
+    let by = settled.judged_refused question rules words r line why (refused_verdict line why) (report_by (refused_verdict line why) []) first (record { verdict_is = refl; reported = refl }) in
     let never = first_not_allowed rules words r.events line why first in
     record { verdict = inr (never, by); answered = none_answered best rules words r.events never; judged = λ asked. by }
 

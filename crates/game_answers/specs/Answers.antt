@@ -7,10 +7,10 @@ use Rattle.gcg_read.specs.declared.events.Event.{Event}
 use Rattle.game_turns.specs.LatestEvents.{latest_tiles, standing_words}
 use Rattle.game_turns.specs.Tallies.{tally_at}
 use Rattle.game_answers.specs.declared.answers.EventAnswer.{EventAnswer}
-use Rattle.event_notes.specs.Bests.{IsTurnBest}
-use Rattle.score_sheets.specs.Gains.{given_at}
+use Rattle.game_bests.specs.Bests.{IsTurnBest}
+use Rattle.sheet_scores.specs.Gains.{given_at}
 use Rattle.game_answers.specs.Letters.{word_of}
-use Rattle.event_notes.specs.Unlisted.{letters_in, unlisted_of}
+use Rattle.game_bests.specs.Unlisted.{letters_in, unlisted_of}
 
 -- the tiles of a play, if there is one
 abbrev pub tiles_in : Option Play → Option (List Placed)

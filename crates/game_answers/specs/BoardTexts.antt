@@ -13,32 +13,32 @@ heading_of None = codes "board after the last event"
 heading_of (Some line) = codes "board before line " ++ decimal line
 
 -- the line of a row by its marks, each after a space
-abbrev pub told_row : (row : ℕ) → (marks : List ℕ) → List ℕ
-told_row row marks = row_name row ++ flat_map (λ mark. 32 ∷ mark ∷ []) marks ++ 10 ∷ []
+abbrev pub reported_row : (row : ℕ) → (marks : List ℕ) → List ℕ
+reported_row row marks = row_name row ++ flat_map (λ mark. 32 ∷ mark ∷ []) marks ++ 10 ∷ []
 
 -- the lines of rows from one on
-abbrev pub told_rows : (row : ℕ) → (rows : List (List ℕ)) → List ℕ
-told_rows row [] = []
-told_rows row (marks ∷ rows) = told_row row marks ++ told_rows (row + 1) rows
+abbrev pub reported_rows : (row : ℕ) → (rows : List (List ℕ)) → List ℕ
+reported_rows row [] = []
+reported_rows row (marks ∷ rows) = reported_row row marks ++ reported_rows (row + 1) rows
 
 -- the line of a player with a total
-abbrev pub told_player : Player → (total : ℤ) → List ℕ
-told_player player total = short_nick player.nick ++ 32 ∷ signed_decimal total ++ 10 ∷ []
+abbrev pub reported_player : Player → (total : ℤ) → List ℕ
+reported_player player total = short_nick player.nick ++ 32 ∷ signed_decimal total ++ 10 ∷ []
 
 -- kinds from one on, with numbers of their tiles
-abbrev pub told_kinds : (kind : ℕ) → (numbers : List ℕ) → List ℕ
-told_kinds kind [] = []
-told_kinds kind (number ∷ numbers) = counted_kind kind number ++ told_kinds (kind + 1) numbers
+abbrev pub reported_kinds : (kind : ℕ) → (numbers : List ℕ) → List ℕ
+reported_kinds kind [] = []
+reported_kinds kind (number ∷ numbers) = counted_kind kind number ++ reported_kinds (kind + 1) numbers
 
 -- the line of nine kinds
-unfoldable pub told_nine : (first : ℕ) → (numbers : List ℕ) → List ℕ
-told_nine first numbers = told_kinds first (take 9 (drop first numbers)) ++ 10 ∷ []
+unfoldable pub reported_nine : (first : ℕ) → (numbers : List ℕ) → List ℕ
+reported_nine first numbers = reported_kinds first (take 9 (drop first numbers)) ++ 10 ∷ []
 
 -- the tiles that are not on the board
-abbrev pub told_off : (in_all : ℕ) → (numbers : List ℕ) → List ℕ
-told_off in_all numbers = (codes "tiles not on the board: " ++ decimal in_all ++ 10 ∷ []) ++ told_nine 0 numbers ++ told_nine 9 numbers ++ told_nine 18 numbers
+abbrev pub reported_off : (in_all : ℕ) → (numbers : List ℕ) → List ℕ
+reported_off in_all numbers = (codes "tiles not on the board: " ++ decimal in_all ++ 10 ∷ []) ++ reported_nine 0 numbers ++ reported_nine 9 numbers ++ reported_nine 18 numbers
 
 abbrev pub shown_text : ShownBoard → List ℕ
 shown_text b =
-    (heading_of b.line ++ end_text b.fault) ++ (columns_line ++ told_rows 0 (items_of b.rows.items) ++ marks_lines)
-    ++ (told_player b.players.first b.first ++ told_player b.players.second b.second ++ stated_rack b.rack) ++ told_off b.off_in_all b.off.items
+    (heading_of b.line ++ end_text b.fault) ++ (columns_line ++ reported_rows 0 (items_of b.rows.items) ++ marks_lines)
+    ++ (reported_player b.players.first b.first ++ reported_player b.players.second b.second ++ stated_rack b.rack) ++ reported_off b.off_in_all b.off.items

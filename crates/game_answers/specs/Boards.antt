@@ -8,13 +8,13 @@ use Rattle.gcg_read.specs.declared.events.Event.{Event}
 use Rattle.gcg_read.specs.declared.events.Seat.TheVariants.{First, Second}
 use Rattle.gcg_read.specs.declared.records.Record.{Record}
 use Rattle.gcg_read.specs.Records.{record_of}
-use Rattle.game_sheets.specs.WrongNumbers.{had_before}
+use Rattle.game_corrections.specs.WrongNumbers.{had_before}
 use Rattle.game_board.specs.Laying.{board_before, AreLaid}
 use Rattle.game_board.specs.Marks.{square_mark}
 use Rattle.game_board.specs.Tiles.{kinds_off, all_off}
-use Rattle.call_stages.specs.declared.decisions.Decision.{Decision}
-use Rattle.call_stages.specs.declared.verdicts.Verdict.TheVariants as verdict
-use Rattle.call_stages.specs.Stages.{IsRecordOf}
+use Rattle.engine_stages.specs.declared.decisions.Decision.{Decision}
+use Rattle.engine_stages.specs.declared.verdicts.Verdict.TheVariants as verdict
+use Rattle.engine_stages.specs.Stages.{IsRecordOf}
 use Rattle.engine.specs.Boards.{place_asked, IsShown}
 use Rattle.engine.specs.TopBefore.{shown_rack}
 use Rattle.game_answers.specs.declared.boards.ShownBoard.{ShownBoard}
@@ -51,7 +51,7 @@ pub record IsShownBoard (rules : Rules) (r : Record) (asked : ℕ) (b : ShownBoa
   pub rack : b.rack ≡ shown_rack (slice_get r.events end)
   pub off : b.off.items ≡ kinds_off rules (board_before r.events end) 27
   pub off_in_all : b.off_in_all ≡ all_off rules (board_before r.events end) 27
-  pub told : IsShown rules r asked verdict.Done (shown_text b)
+  pub reported : IsShown rules r asked verdict.Done (shown_text b)
 
 -- the board before the place of the question, if there is one
 abbrev pub IsBoardAt : Rules → Record → (place : Option ℕ) → Option ShownBoard → Type 0

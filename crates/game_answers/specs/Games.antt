@@ -6,16 +6,16 @@ use Rattle.gcg_read.specs.declared.players.Players.{Players}
 use Rattle.gcg_read.specs.declared.records.Record.{Record}
 use Rattle.gcg_read.specs.Records.{record_of}
 use Rattle.game_turns.specs.Places.{AreAllowed}
-use Rattle.call_stages.specs.declared.decisions.Decision.{Decision}
-use Rattle.call_stages.specs.declared.verdicts.Verdict.{Verdict}
-use Rattle.call_stages.specs.Stages.{IsRecordOf}
+use Rattle.engine_stages.specs.declared.decisions.Decision.{Decision}
+use Rattle.engine_stages.specs.declared.verdicts.Verdict.{Verdict}
+use Rattle.engine_stages.specs.Stages.{IsRecordOf}
 use Rattle.engine.specs.declared.judging.Judging.{Judging}
 use Rattle.engine.specs.Settling.{IsJudgedBy}
 use Rattle.game_report.specs.EventLines.{AreEventLines}
 use Rattle.game_answers.specs.declared.leaving.GameAnswers.{GameAnswers}
 use Rattle.game_answers.specs.declared.games.JudgedGame.{JudgedGame}
 use Rattle.game_answers.specs.Answers.{AreAnswersTo}
-use Rattle.game_answers.specs.Leaving.{AreLeft}
+use Rattle.game_answers.specs.Leaving.{AreRemaining}
 use Rattle.game_answers.specs.Reports.{lines_to, report_by}
 
 -- a verdict on a record in which the rules allow every event: whatever lines its events have, `judge` answers it with the report of them
@@ -29,7 +29,7 @@ IsVerdict question rules list r v =
 
 -- What is answered for the events if answers are asked for and the rules allow every event: an answer for each, and how many points both players left.
 abbrev pub AreAnswered : (best : Bool) → Rules → (list : List (List ℕ)) → List Event → Option GameAnswers → Type 0
-AreAnswered true rules list events (Some a) = AreAllowed rules list events × AreAnswersTo rules list events (length events) a.events.items × AreLeft events a
+AreAnswered true rules list events (Some a) = AreAllowed rules list events × AreAnswersTo rules list events (length events) a.events.items × AreRemaining events a
 AreAnswered true rules list events None = AreAllowed rules list events → ⊥
 AreAnswered false rules list events a = a ≡ None
 

@@ -6,12 +6,12 @@ use Rattle.gcg_read.specs.declared.records.Record.{Record}
 use Rattle.gcg_read.specs.Records.{record_of}
 use Rattle.game_turns.specs.Places.{AreAllowedTo, IsRefusedBefore}
 use Rattle.game_turns.specs.Tallies.{tally_at}
-use Rattle.call_stages.specs.declared.decisions.Decision.{Decision}
-use Rattle.call_stages.specs.declared.verdicts.GameFault.TheVariants as game
-use Rattle.call_stages.specs.declared.verdicts.Verdict.{Verdict}
-use Rattle.call_stages.specs.declared.verdicts.Verdict.TheVariants as verdict
-use Rattle.call_stages.specs.Reports.{bad_rack_line, bad_line_line, illegal_line}
-use Rattle.call_stages.specs.Stages.{IsRecordOf}
+use Rattle.engine_stages.specs.declared.decisions.Decision.{Decision}
+use Rattle.engine_stages.specs.declared.verdicts.GameFault.TheVariants as game
+use Rattle.engine_stages.specs.declared.verdicts.Verdict.{Verdict}
+use Rattle.engine_stages.specs.declared.verdicts.Verdict.TheVariants as verdict
+use Rattle.engine_stages.specs.Reports.{bad_rack_line, bad_line_line, illegal_line}
+use Rattle.engine_stages.specs.Stages.{IsRecordOf}
 use Rattle.engine.specs.Boards.{place_asked}
 use Rattle.engine.specs.TopBefore.{rack_asked, IsToppedBefore}
 use Rattle.game_answers.specs.declared.tops.FoundPlays.{FoundPlays}
@@ -50,7 +50,7 @@ AreFoundAt number rules list given events (Some place) x = AreFoundBy number rul
 -- writes.
 pub record AreTopPlays (number : ℕ) (before : Option ℕ) (rules : Rules) (list : List (List ℕ)) (given : Option (List ℕ)) (r : Record) (x : FoundPlays) : Type 0 where
   pub plays : AreFoundAt number rules list given r.events (place_asked r.events before) x
-  pub told : IsToppedBefore number before rules list given r (verdict_of x) (plays_report x)
+  pub reported : IsToppedBefore number before rules list given r (verdict_of x) (plays_report x)
 
 -- the same for the record that a text means, or the verdict that it means none
 abbrev pub AreTopPlaysOf : (number : ℕ) → (before : Option ℕ) → Rules → (list : List (List ℕ)) → (given : Option (List ℕ)) → (text : List ℕ) → Result FoundPlays Decision → Type 0

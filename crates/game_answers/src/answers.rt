@@ -4,25 +4,25 @@ ghost use Rattle.game_turns.specs.LatestEvents.{latest_tiles, standing_words};
 ghost use Rattle.game_turns.specs.Machines.{rules_of, state_of};
 ghost use Rattle.game_turns.specs.Passing.{rules_in, record_in};
 ghost use Rattle.lex_check.specs.Pairs.{list_in};
-ghost use Rattle.known_bests.specs.Besides.{IsBeside};
-ghost use Rattle.known_bests.specs.Known.{AreKnown};
+ghost use Rattle.game_known.specs.Besides.{IsBeside};
+ghost use Rattle.game_known.specs.Known.{AreKnown};
 ghost use Rattle.game_answers.specs.Going.{HasTaken};
-ghost use Rattle.score_sheets.specs.Gains.{given_at};
+ghost use Rattle.sheet_scores.specs.Gains.{given_at};
 ghost use Rattle.game_answers.specs.Answers.{tiles_in, IsAnswerAt, AreAnswersTo};
 ghost use Rattle.game_answers.specs.Letters.{word_of};
-ghost use Rattle.event_notes.specs.Bests.{IsTurnBest};
-ghost use Rattle.event_notes.specs.Unlisted.{letters_in, unlisted_of};
+ghost use Rattle.game_bests.specs.Bests.{IsTurnBest};
+ghost use Rattle.game_bests.specs.Unlisted.{letters_in, unlisted_of};
 
 use crate::copies::copied;
 use crate::letters::word_of;
-use event_notes::{SpelledWord, TurnBest, unlisted_of};
+use game_bests::{SpelledWord, TurnBest, unlisted_of};
+use game_known::{Beside, KnownBests};
 use game_turns::{Machine, Passed};
 use gcg_read::Event;
-use known_bests::{Beside, KnownBests};
 use lex_check::Checked;
 use lex_list::WordList;
 use ref_play::{Play, Word};
-use score_sheets::{given_by, is_taken_back};
+use sheet_scores::{given_by, is_taken_back};
 use std::alloc::{AllocError, Global};
 
 /// What is answered for an event.
@@ -79,7 +79,7 @@ fn best_at(
 }
 
 /// What is answered for an event, by its best play and the machine after it.
-fn answer_behind(
+fn answer_after(
     alloc: Global,
     list: &WordList,
     machine: &Machine,
@@ -126,7 +126,7 @@ fn answer_at(
     let gave = given_at(events, place, event);
     let best = best_at(passed, pair, machine, beside, known, place, event, gave);
     passed.take_event(machine, place);
-    let answer = answer_behind(alloc, pair.list(), machine, event, best)?;
+    let answer = answer_after(alloc, pair.list(), machine, event, best)?;
     Ok(answer)
 }
 

@@ -1,20 +1,20 @@
 //! The board of a record, as a value.
 ghost use Rattle.std.specs.Prelude.{◌≡◌, ◌≤◌, ◌<◌, IfOk, length, slice_get};
 ghost use Rattle.std.specs.Option.{option_copied};
-ghost use Rattle.devices.specs.Devices.{HasRoom};
+ghost use Rattle.io_devices.specs.Devices.{HasRoom};
 ghost use Rattle.ref_play.specs.Words.{items_of};
 ghost use Rattle.gcg_read.specs.Records.{most_bytes};
-ghost use Rattle.call_stages.specs.Stages.{IsRead};
+ghost use Rattle.engine_stages.specs.Stages.{IsRead};
 ghost use Rattle.engine.specs.Boards.{place_asked};
 ghost use Rattle.game_answers.specs.Boards.{mark_at, row_marks, board_marks, line_at, IsShownBoard, IsBoardAt, IsBoardOf};
 
 use arrayvec::ArrayVec;
-use call_stages::{Decision, RunFault, read_text, record_from};
-use devices::Input;
 use engine::{place_asked, shown_rack};
+use engine_stages::{Decision, RunFault, read_text, record_from};
 use game_board::{kinds_off, lay_plays, square_mark, tiles_off};
-use game_sheets::had_before;
+use game_corrections::had_before;
 use gcg_read::{Event, MAX_BYTES, Players, Record, Seat};
+use io_devices::Input;
 use ref_board::{Board, Dir, SIDE, Square};
 use ref_play::PlayFault;
 use ref_tiles::{Counts, Rules};

@@ -1,19 +1,19 @@
 //! The judged game of a record, by the bytes of its input.
 ghost use Rattle.std.specs.Prelude.{IfOk};
-ghost use Rattle.devices.specs.Devices.{HasRoom};
+ghost use Rattle.io_devices.specs.Devices.{HasRoom};
 ghost use Rattle.gcg_read.specs.Records.{most_bytes};
 ghost use Rattle.lex_check.specs.Pairs.{list_in};
-ghost use Rattle.call_stages.specs.Stages.{IsRead};
-ghost use Rattle.known_bests.specs.Known.{AreKnown};
+ghost use Rattle.engine_stages.specs.Stages.{IsRead};
+ghost use Rattle.game_known.specs.Known.{AreKnown};
 ghost use Rattle.game_answers.specs.Games.{IsJudgedGame, IsJudgedGameOf};
 
 use crate::judging::judge_record;
 use crate::leaving::GameAnswers;
-use call_stages::{Decision, RunFault, Verdict, read_text, record_from};
-use devices::Input;
 use engine::Judging;
+use engine_stages::{Decision, RunFault, Verdict, read_text, record_from};
+use game_known::KnownBests;
 use gcg_read::{Events, MAX_BYTES, Players, Record};
-use known_bests::KnownBests;
+use io_devices::Input;
 use lex_check::Checked;
 use ref_tiles::Rules;
 use std::alloc::{AllocError, Global};

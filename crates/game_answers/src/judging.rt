@@ -2,18 +2,18 @@
 ghost use Rattle.std.specs.Prelude.{◌≡◌, IfOk, None};
 ghost use Rattle.game_turns.specs.{Passing.{rules_in, record_in}, Places.{AreAllowed}};
 ghost use Rattle.lex_check.specs.Pairs.{list_in};
-ghost use Rattle.known_bests.specs.Known.{AreKnown};
+ghost use Rattle.game_known.specs.Known.{AreKnown};
 ghost use Rattle.game_answers.specs.Bounds.{refused_verdict};
 ghost use Rattle.game_answers.specs.Games.{AreAnswered, IsJudged};
 
 use crate::answers::answers_with;
-use crate::leaving::{GameAnswers, with_left};
+use crate::leaving::{GameAnswers, with_remaining};
 use crate::verdicts::verdict_on;
-use call_stages::{GameFault, Verdict};
 use engine::Judging;
+use engine_stages::{GameFault, Verdict};
+use game_known::KnownBests;
 use game_turns::{Passed, RuleFault, play_through};
 use gcg_read::Record;
-use known_bests::KnownBests;
 use lex_check::Checked;
 use ref_tiles::Rules;
 use std::alloc::{AllocError, Global};
@@ -57,7 +57,7 @@ fn answers_asked(
         return Ok(None);
     }
     let answers = answers_with(alloc, passed, pair, known)?;
-    Ok(Some(with_left(passed.record().events.as_slice(), answers)))
+    Ok(Some(with_remaining(passed.record().events.as_slice(), answers)))
 }
 
 /// The verdict on a record that passed, and what is answered for its events.

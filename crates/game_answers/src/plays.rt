@@ -4,7 +4,7 @@ ghost use Rattle.ref_play.specs.Legality.{IsLegal};
 ghost use Rattle.gen_sinks.specs.Sinks.{seen_pair};
 ghost use Rattle.lex_check.specs.Pairs.{list_in};
 ghost use Rattle.game_report.specs.TopPlays.{AreLegal};
-ghost use Rattle.game_answers.specs.Plays.{told_play, play_on, ArePlaysOn, AreBestPlays};
+ghost use Rattle.game_answers.specs.Plays.{reported_play, play_on, ArePlaysOn, AreBestPlays};
 
 use game_notes::top_many;
 use gen_sinks::Top;
@@ -26,7 +26,7 @@ pub struct ScoredPlay {
 /// A play on a board with its score.
 fn scored_play(board: &Board, scored: &(Play, i32)) -> ScoredPlay
     requires { IsLegal board.now scored.now.0.tiles.items }
-    ensures { told_play result ≡ play_on board.now (seen_pair scored.now) }
+    ensures { reported_play result ≡ play_on board.now (seen_pair scored.now) }
 {
     ScoredPlay {
         written: notation(board, &scored.0),

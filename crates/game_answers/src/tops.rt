@@ -1,18 +1,18 @@
 //! The best plays before a line of a record, as a value.
 ghost use Rattle.std.specs.Prelude.{◌≡◌, ◌≤◌, IfOk, Some, length};
-ghost use Rattle.devices.specs.Devices.{HasRoom};
+ghost use Rattle.io_devices.specs.Devices.{HasRoom};
 ghost use Rattle.gcg_read.specs.Records.{most_bytes};
 ghost use Rattle.lex_check.specs.Pairs.{list_in};
-ghost use Rattle.call_stages.specs.Stages.{IsRead};
+ghost use Rattle.engine_stages.specs.Stages.{IsRead};
 ghost use Rattle.engine.specs.Boards.{place_asked};
 ghost use Rattle.game_answers.specs.Tops.{verdict_of, AreFoundBy, AreFoundAt, AreTopPlays, AreTopPlaysOf};
 
 use crate::plays::{ScoredPlay, best_plays};
-use call_stages::{AskedGame, Decision, GameFault, RunFault, Verdict, read_text, record_from};
-use devices::Input;
 use engine::{TurnPlays, place_asked, rack_asked};
+use engine_stages::{AskedGame, Decision, GameFault, RunFault, Verdict, read_text, record_from};
 use game_turns::{RuleFault, board_before};
 use gcg_read::MAX_BYTES;
+use io_devices::Input;
 use lex_check::Checked;
 use ref_tiles::{Counts, Rules};
 use std::alloc::{AllocError, Global};
@@ -111,7 +111,7 @@ fn found_on_line(
 }
 
 /// What is found in a record for a question about the best plays before a line.
-#[tactic(auto, using(crate::proofs::TopLaws::tells_plays))]
+#[tactic(auto, using(crate::proofs::TopLaws::reports_plays))]
 fn find_plays(
     alloc: Global,
     asked: &AskedGame<'_>,

@@ -4,8 +4,8 @@ ghost use Rattle.game_turns.specs.{Passing.{rules_in, record_in}, Places.{AreAll
 ghost use Rattle.lex_check.specs.Pairs.{list_in};
 ghost use Rattle.game_answers.specs.Games.{IsVerdictOn};
 
-use call_stages::Verdict;
 use engine::{Judging, found_by};
+use engine_stages::Verdict;
 use game_case::verdict_in;
 use game_turns::Passed;
 use lex_check::Checked;

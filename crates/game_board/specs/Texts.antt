@@ -13,7 +13,7 @@ use Rattle.gcg_read.specs.declared.events.Event.{Event}
 use Rattle.gcg_read.specs.declared.records.Record.{Record}
 use Rattle.gcg_read.specs.Players.{player_of}
 use Rattle.gcg_write.specs.Fields.{tiles_text}
-use Rattle.game_sheets.specs.WrongNumbers.{had_before}
+use Rattle.game_corrections.specs.WrongNumbers.{had_before}
 use Rattle.game_board.specs.Laying.{board_before}
 use Rattle.game_board.specs.Marks.{square_mark}
 use Rattle.game_board.specs.Tiles.{off_board, all_off}

@@ -9,14 +9,14 @@ ghost use Rattle.game_board.specs.Texts.{place_text, refusal_text, end_text, row
 use crate::laying::Laying;
 use crate::marks::square_mark;
 use crate::tiles::{off_board, tiles_off};
-use decimal_text::push_number;
-use game_sheets::had_before;
+use game_corrections::had_before;
 use gcg_read::{Event, Record, Seat};
 use gcg_write::tiles_text;
 use ref_board::{Board, Dir, SIDE, Square};
 use ref_play::PlayFault;
 use ref_tiles::{Kind, Rules};
 use std::alloc::{AllocError, Global};
+use text_decimals::push_number;
 
 /// The maximum number of bytes of a nickname that are written.
 const NICK: usize = 60;

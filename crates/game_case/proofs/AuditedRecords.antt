@@ -4,7 +4,7 @@ use Rattle.ref_tiles.specs.declared.rulebook.Rules.{Rules}
 use Rattle.gcg_read.specs.declared.records.Record.{Record}
 use Rattle.gcg_read.specs.Records.{record_of}
 use Rattle.gcg_write.specs.Rounds.{IsReadWithPoints}
-use Rattle.game_sheets.specs.Corrections.{KeepPoints}
+use Rattle.game_corrections.specs.Corrections.{KeepPoints}
 use Rattle.game_case.specs.declared.audits.Audit.{Audit}
 use Rattle.game_case.specs.Auditing.{IsAudit, IsAuditOfRecord}
 

@@ -16,8 +16,8 @@ use Rattle.game_deal.specs.Laws.{FittingIsBounded}
 use Rattle.game_deal.specs.Racks.{AreTried, AreFound}
 use Rattle.game_deal.specs.Verdicts.{IsGame}
 use Rattle.game_deal.proofs.Deals.{exceeds}
-use Rattle.game_deal.proofs.FoundRacks.{ends_on, left_open}
-use Rattle.call_stages.specs.declared.verdicts.GameFault.TheVariants as game
+use Rattle.game_deal.proofs.FoundRacks.{ends_on, remains_open}
+use Rattle.engine_stages.specs.declared.verdicts.GameFault.TheVariants as game
 use Rattle.game_case.specs.declared.findings.Finding.{Finding}
 use Rattle.game_case.specs.declared.findings.Finding.TheVariants as finding
 use Rattle.game_case.specs.Archiving.{past_bound, HasEvents, IsFinding}
@@ -49,7 +49,7 @@ found_out passed words line earlier allowed found = ends_on passed words line ea
 
 pub found_open : (passed : Passed) (words : List (List ℕ)) → AreAllowed (rules_in passed) words (record_in passed).events → AreFound passed rack.Unknown
     → IsSettledAs (rules_in passed) words (record_in passed).events finding.Unsettled
-found_open passed words allowed found = left_open passed words allowed found
+found_open passed words allowed found = remains_open passed words allowed found
 
 -- ---- by the deal of the rule alone
 
@@ -69,7 +69,7 @@ tried_past law passed words bound f allowed found is =
 
 pub tried_open : (passed : Passed) (words : List (List ℕ)) → AreAllowed (rules_in passed) words (record_in passed).events → AreTried passed trial.Open
     → IsTriedAs (rules_in passed) words (record_in passed).events finding.Unsettled
-tried_open passed words allowed found = left_open passed words allowed found
+tried_open passed words allowed found = remains_open passed words allowed found
 
 -- ---- of a record with an event
 

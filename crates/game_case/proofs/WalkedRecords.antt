@@ -6,10 +6,10 @@ use Rattle.ref_tiles.specs.declared.rulebook.Rules.{Rules}
 use Rattle.gcg_read.specs.declared.events.Event.{Event}
 use Rattle.game_turns.specs.Places.{AreAllowed, IsFirstRefusal, is_finished}
 use Rattle.game_turns.specs.Tallies.{State, tally_at}
-use Rattle.game_rows.specs.declared.refusals.Refusal.{Refusal}
-use Rattle.game_rows.specs.declared.rows.Row.{Row}
-use Rattle.game_rows.specs.Refusals.{IsToldRefusal}
-use Rattle.game_rows.specs.Rows.{HaveRows}
+use Rattle.game_walk.specs.declared.refusals.Refusal.{Refusal}
+use Rattle.game_walk.specs.declared.rows.Row.{Row}
+use Rattle.game_walk.specs.Refusals.{IsReportedRefusal}
+use Rattle.game_walk.specs.Rows.{HaveRows}
 use Rattle.gcg_read.specs.declared.faults.ReadFault.{ReadFault}
 use Rattle.game_case.specs.declared.entries.Walked.{Walked}
 use Rattle.game_case.specs.declared.explains.Case.{Case}
@@ -18,17 +18,17 @@ use Rattle.game_case.specs.Explaining.{IsWalkFor, IsCaseOf}
 use Rattle.game_case.specs.WalkedEntries.{IsWalkedFrom, read_of, walk_of}
 
 -- no event is refused
-pub all_allowed : (rules : Rules) (words : List (List ℕ)) (events : List Event) (refused : Option Refusal) → IsToldRefusal rules words events refused → refused ≡ None → AreAllowed rules words events
-all_allowed rules words events refused told none = subst (IsToldRefusal rules words events) none told
+pub all_allowed : (rules : Rules) (words : List (List ℕ)) (events : List Event) (refused : Option Refusal) → IsReportedRefusal rules words events refused → refused ≡ None → AreAllowed rules words events
+all_allowed rules words events refused reported none = subst (IsReportedRefusal rules words events) none reported
 
 -- the first that is
-pub first_of : (rules : Rules) (words : List (List ℕ)) (events : List Event) (refused : Option Refusal) (refusal : Refusal) → IsToldRefusal rules words events refused → refused ≡ Some refusal
+pub first_of : (rules : Rules) (words : List (List ℕ)) (events : List Event) (refused : Option Refusal) (refusal : Refusal) → IsReportedRefusal rules words events refused → refused ≡ Some refusal
     → IsFirstRefusal rules words events refusal.line refusal.why
-first_of rules words events refused refusal told is = subst (IsToldRefusal rules words events) is told
+first_of rules words events refused refusal reported is = subst (IsReportedRefusal rules words events) is reported
 
 -- whether the game is complete
 pub complete_at_end : (rules : Rules) (events : List Event) (s : State) (complete : Bool) → complete ≡ s.complete → s ≡ tally_at rules events (length events) → complete ≡ is_finished rules events
-complete_at_end rules events s complete told state = told ∙ ap (λ (x : State). x.complete) state
+complete_at_end rules events s complete reported state = reported ∙ ap (λ (x : State). x.complete) state
 
 -- one more row is counted
 pub unlisted_more : (rules : Rules) (words : List (List ℕ)) (events : List Event) (rows : List Row) (place : ℕ) (row : Row) (so_far n : ℕ) → HaveRows rules words events rows → place < length rows

@@ -15,8 +15,8 @@ use Rattle.deal_steps.specs.declared.faults.DealBound.TheVariants as deal
 use Rattle.game_case.specs.declared.entries.Entry.{Entry}
 use Rattle.game_case.specs.declared.findings.Finding.{Finding}
 use Rattle.game_case.specs.declared.findings.Finding.TheVariants as finding
-use Rattle.call_stages.specs.declared.verdicts.GameFault.{GameFault}
-use Rattle.call_stages.specs.declared.verdicts.GameFault.TheVariants as game
+use Rattle.engine_stages.specs.declared.verdicts.GameFault.{GameFault}
+use Rattle.engine_stages.specs.declared.verdicts.GameFault.TheVariants as game
 use Rattle.game_deal.specs.Verdicts.{IsGame, Exceeds, IsUnsettled, HasNoDealBy}
 
 -- what is found of a game whose racks exceed a bound

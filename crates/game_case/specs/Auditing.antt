@@ -3,13 +3,13 @@ use Rattle.std.specs.Prelude.{◌≡◌, ℕ, List, Result, Ok, Err}
 use Rattle.ref_tiles.specs.declared.rulebook.Rules.{Rules}
 use Rattle.gcg_read.specs.declared.records.Record.{Record}
 use Rattle.gcg_read.specs.Records.{record_of}
-use Rattle.game_sheets.specs.Auditing.{IsAudited}
-use Rattle.game_sheets.specs.Corrections.{HavePoints}
-use Rattle.game_sheets.specs.Standings.{IsStandingIn}
+use Rattle.game_corrections.specs.Auditing.{IsAudited}
+use Rattle.game_corrections.specs.Corrections.{HavePoints}
+use Rattle.game_corrections.specs.Standings.{IsStandingIn}
 use Rattle.game_case.specs.declared.audits.Audit.{Audit}
-use Rattle.call_stages.specs.declared.decisions.Decision.{Decision}
+use Rattle.engine_stages.specs.declared.decisions.Decision.{Decision}
 use Rattle.game_case.specs.Archiving.{IsEntry}
-use Rattle.call_stages.specs.Stages.{IsRecordOf}
+use Rattle.engine_stages.specs.Stages.{IsRecordOf}
 
 -- what an audit says of a record as it is written: the entry is of a record with the same players, and with the events of the
 -- record, corrected as far as they can be; the wrong numbers are given, and who is ahead by these events and by those that are written

@@ -2,16 +2,16 @@
 use Rattle.std.specs.Prelude.{⊤, ◌≡◌, ℕ, false, List, Result, Ok, Err, Option, Some, None}
 use Rattle.ref_tiles.specs.declared.rulebook.Rules.{Rules}
 use Rattle.gcg_read.specs.declared.faults.ReadFault.{ReadFault}
-use Rattle.game_rows.specs.declared.walking.Walk.{Walk}
-use Rattle.game_rows.specs.Walks.{IsWalkOf}
+use Rattle.game_walk.specs.declared.walking.Walk.{Walk}
+use Rattle.game_walk.specs.Walks.{IsWalkOf}
 use Rattle.game_case.specs.declared.entries.Entry.{Entry}
 use Rattle.game_case.specs.declared.explains.Case.{Case}
 use Rattle.game_case.specs.declared.findings.Finding.{Finding}
 use Rattle.game_case.specs.declared.findings.Finding.TheVariants as finding
-use Rattle.call_stages.specs.declared.verdicts.Verdict.{Verdict}
-use Rattle.call_stages.specs.declared.verdicts.Verdict.TheVariants as verdict
+use Rattle.engine_stages.specs.declared.verdicts.Verdict.{Verdict}
+use Rattle.engine_stages.specs.declared.verdicts.Verdict.TheVariants as verdict
 use Rattle.game_case.specs.Archiving.{IsEntryOf}
-use Rattle.call_stages.specs.Reports.{legal_line, illegal_line, unsettled_line, bad_record_line}
+use Rattle.engine_stages.specs.Reports.{legal_line, illegal_line, unsettled_line, bad_record_line}
 
 -- the settled verdict of what is found of a record: a record without an event is a legal game that is not finished
 abbrev pub verdict_in : Finding → Verdict

@@ -5,8 +5,8 @@ use Rattle.gcg_read.specs.declared.events.Event.{Event}
 use Rattle.game_turns.specs.Places.{AreAllowed, is_finished}
 use Rattle.deal_steps.specs.declared.faults.DealBound.TheVariants as deal
 use Rattle.game_deal.specs.Verdicts.{IsGame, IsDealt, Exceeds, IsUnsettled}
-use Rattle.call_stages.specs.declared.verdicts.GameFault.{GameFault}
-use Rattle.call_stages.specs.declared.verdicts.GameFault.TheVariants as game
+use Rattle.engine_stages.specs.declared.verdicts.GameFault.{GameFault}
+use Rattle.engine_stages.specs.declared.verdicts.GameFault.TheVariants as game
 use Rattle.game_case.specs.declared.findings.Finding.{Finding}
 use Rattle.game_case.specs.declared.findings.Finding.TheVariants as finding
 use Rattle.game_case.specs.Archiving.{IsFaulty}

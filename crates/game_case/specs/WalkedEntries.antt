@@ -3,8 +3,8 @@ use Rattle.std.specs.Prelude.{◌≡◌, ℕ, List, Result, Ok, Err, Option, Som
 use Rattle.ref_tiles.specs.declared.rulebook.Rules.{Rules}
 use Rattle.gcg_read.specs.declared.faults.ReadFault.{ReadFault}
 use Rattle.gcg_read.specs.Records.{record_of}
-use Rattle.game_rows.specs.Walks.{IsWalkOf}
-use Rattle.game_rows.specs.declared.walking.Walk.{Walk}
+use Rattle.game_walk.specs.Walks.{IsWalkOf}
+use Rattle.game_walk.specs.declared.walking.Walk.{Walk}
 use Rattle.game_case.specs.declared.entries.Entry.{Entry}
 use Rattle.game_case.specs.declared.entries.Walked.{Walked}
 use Rattle.game_case.specs.Archiving.{IsEntry}

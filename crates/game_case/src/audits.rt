@@ -1,19 +1,19 @@
 //! The audit of one sheet, by a word list and a lexicon that were read before.
 ghost use Rattle.std.specs.Prelude.{◌≡◌, IfOk};
-ghost use Rattle.devices.specs.Devices.{HasRoom};
+ghost use Rattle.io_devices.specs.Devices.{HasRoom};
 ghost use Rattle.gcg_read.specs.Records.{most_bytes};
-ghost use Rattle.game_sheets.specs.Corrections.{KeepPoints};
+ghost use Rattle.game_corrections.specs.Corrections.{KeepPoints};
 ghost use Rattle.lex_check.specs.Pairs as pairs;
 ghost use Rattle.game_case.specs.Auditing.{IsAudit, IsAuditOf};
-ghost use Rattle.call_stages.specs.Stages.{IsRead};
+ghost use Rattle.engine_stages.specs.Stages.{IsRead};
 
 use crate::entries::{Entry, find};
-use call_stages::{Decision, RunFault, read_text, record_from};
-use devices::Input;
-use game_rows::audit;
-use game_sheets::{Standing, WrongNumber, standing_in};
+use engine_stages::{Decision, RunFault, read_text, record_from};
+use game_corrections::{Standing, WrongNumber, standing_in};
+use game_walk::audit;
 use gcg_read::{MAX_BYTES, Record};
 use gcg_write::law_of_other_points;
+use io_devices::Input;
 use lex_check::Checked;
 use ref_tiles::Rules;
 use std::alloc::{AllocError, Global};

@@ -2,21 +2,21 @@
 ghost use Rattle.std.specs.Prelude.{◌≡◌, IfOk, None};
 ghost use Rattle.game_turns.specs.Passing.{rules_in, record_in, list_in};
 ghost use Rattle.game_turns.specs.Places.{AreAllowed};
-ghost use Rattle.game_rows.specs.Refusals.{IsToldRefusal};
-ghost use Rattle.game_rows.specs.Rows.{HaveRows};
-ghost use Rattle.game_rows.specs.Walks.{GoesThrough, IsWalkOf};
+ghost use Rattle.game_walk.specs.Refusals.{IsReportedRefusal};
+ghost use Rattle.game_walk.specs.Rows.{HaveRows};
+ghost use Rattle.game_walk.specs.Walks.{GoesThrough, IsWalkOf};
 ghost use Rattle.lex_check.specs.Pairs as pairs;
 ghost use Rattle.game_case.specs.declared.findings.Finding.TheVariants as finding;
-ghost use Rattle.call_stages.specs.declared.verdicts.GameFault.TheVariants as game;
+ghost use Rattle.engine_stages.specs.declared.verdicts.GameFault.TheVariants as game;
 ghost use Rattle.game_case.specs.Archiving.{IsFinding, AreUnlisted, IsEntry};
 ghost use Rattle.game_case.specs.WalkedEntries.{IsWalkedFrom};
 
 use crate::findings::Finding;
 use crate::settling::settle_passed;
 use crate::unlisted::unlisted_plays;
-use call_stages::{GameFault, game_from};
-use game_rows::{Refusal, Row, Walk, walk_as_written};
+use engine_stages::{GameFault, game_from};
 use game_turns::{Passed, RuleFault};
+use game_walk::{Refusal, Row, Walk, walk_as_written};
 use gcg_read::{ReadFault, Record};
 use lex_check::Checked;
 use ref_tiles::Rules;
@@ -92,7 +92,7 @@ pub(crate) fn find(
     refused: Option<Refusal>,
     walk: &Walk,
 ) -> Result<Found, AllocError>
-    requires told { IsToldRefusal rules.now (pairs.list_in pair.now) game.now.events refused }
+    requires reported { IsReportedRefusal rules.now (pairs.list_in pair.now) game.now.events refused }
     requires walked { refused ≡ None → GoesThrough rules.now (pairs.list_in pair.now) game.now.events walk.now }
     ensures found { IfOk result (λ f. IsFinding rules.now (pairs.list_in pair.now) game.now f.finding) }
     ensures unlisted { IfOk result (λ f. AreUnlisted rules.now (pairs.list_in pair.now) game.now.events f.unlisted) }

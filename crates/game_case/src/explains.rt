@@ -1,20 +1,20 @@
 //! What is to be explained of one sheet, by a word list and a lexicon that were read before.
 ghost use Rattle.std.specs.Prelude.{◌≡◌, IfOk};
-ghost use Rattle.devices.specs.Devices.{HasRoom};
+ghost use Rattle.io_devices.specs.Devices.{HasRoom};
 ghost use Rattle.gcg_read.specs.Records.{most_bytes};
 ghost use Rattle.lex_check.specs.Pairs as pairs;
 ghost use Rattle.game_case.specs.Explaining.{verdict_in, finding_line, case_verdict, case_line, IsCaseOf};
-ghost use Rattle.call_stages.specs.Stages.{IsRead};
+ghost use Rattle.engine_stages.specs.Stages.{IsRead};
 ghost use Rattle.game_case.specs.WalkedEntries.{read_of, walk_of};
 
 use crate::entries::{Entry, Walked, walked_from};
 use crate::findings::Finding;
-use call_stages::{
+use engine_stages::{
     RunFault, Verdict, bad_record_line, illegal_line, legal_line, read_text, unsettled_line,
 };
-use devices::Input;
-use game_rows::Walk;
+use game_walk::Walk;
 use gcg_read::{MAX_BYTES, ReadFault};
+use io_devices::Input;
 use lex_check::Checked;
 use ref_tiles::Rules;
 use std::alloc::{AllocError, Global};

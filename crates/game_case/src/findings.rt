@@ -1,6 +1,6 @@
 //! What is found of the game of a record, without a report.
 
-use call_stages::GameFault;
+use engine_stages::GameFault;
 
 /// What is found of the game of a record.
 #[derive(Clone, Copy, Debug, PartialEq, Eq)]

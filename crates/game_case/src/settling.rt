@@ -6,7 +6,7 @@ ghost use Rattle.game_case.specs.Archiving.{past_bound};
 ghost use Rattle.game_case.specs.Settling.{IsTriedAs, IsSettledAs};
 
 use crate::findings::Finding;
-use call_stages::GameFault;
+use engine_stages::GameFault;
 use game_deal::{DealBound, RackFinding, RackTrial, law_of_bounds, settle_racks, try_racks};
 use game_turns::Passed;
 use std::alloc::{AllocError, Global};

@@ -1,11 +1,11 @@
 //! How many phonies of a record stand: plays with a word that is not in the list.
 ghost use Rattle.std.specs.Prelude.{◌≡◌, ◌≤◌, not, if◌then◌else◌};
 ghost use Rattle.game_turns.specs.Passing.{rules_in, record_in, list_in};
-ghost use Rattle.game_rows.specs.Rows.{HaveRows};
+ghost use Rattle.game_walk.specs.Rows.{HaveRows};
 ghost use Rattle.game_case.specs.Archiving.{unlisted_plays};
 
-use game_rows::Row;
 use game_turns::Passed;
+use game_walk::Row;
 
 /// 1 for a play that stands with a word that is not in the list, and otherwise 0.
 fn unlisted_here(row: &Row) -> usize

@@ -62,23 +62,23 @@ sizes_differ passed deal events n m size count same other =
 pub not_at : (passed : Passed) (own : Rules) (deal given : List Held) (i : ℕ) (s : Step) (held : Held) (b : Bool) → own ≡ rules_in passed → given ≡ deal → slice_get (steps_in passed) i ≡ Some s
     → i < length given → held ≡ get_or given i held → FitsRecord passed deal ↔ FitsFrom (rules_in passed) (steps_in passed) deal i → b ≡ false
     → IsTrue b ↔ FitsAt own s held → IsTrue false ↔ FitsRecord passed deal
-not_at passed own deal given i s held b by same is inside there whole fails told =
+not_at passed own deal given i s held b by same is inside there whole fails reported =
     let long = ap length same in
     let within : i < length deal = omega arith in
     let here : held ≡ get_or deal i held = there ∙ ap (λ (hs : List Held). get_or hs i held) same in
-    let again = subst (λ (r : Rules). IsTrue b ↔ FitsAt r s held) by told in
+    let again = subst (λ (r : Rules). IsTrue b ↔ FitsAt r s held) by reported in
     none_fits (FitsRecord passed deal) (λ fits. not_both b (FitsAt (rules_in passed) s held) fails again (looked (rules_in passed) (steps_in passed) deal i s held is within here (whole.0 fits)).0)
 
 -- the racks before the next step do not follow
-pub not_behind : (passed : Passed) (own : Rules) (deal given rest : List Held) (i : ℕ) (s : Step) (held : Held) (b : Bool) → own ≡ rules_in passed → given ≡ deal → slice_get (steps_in passed) i ≡ Some s
+pub not_after : (passed : Passed) (own : Rules) (deal given rest : List Held) (i : ℕ) (s : Step) (held : Held) (b : Bool) → own ≡ rules_in passed → given ≡ deal → slice_get (steps_in passed) i ≡ Some s
     → i < length given → held ≡ get_or given i held → rest ≡ drop (i + 1) given → FitsRecord passed deal ↔ FitsFrom (rules_in passed) (steps_in passed) deal i → b ≡ false
     → IsTrue b ↔ FollowsTo own s held rest → IsTrue false ↔ FitsRecord passed deal
-not_behind passed own deal given rest i s held b by same is inside there behind whole fails told =
+not_after passed own deal given rest i s held b by same is inside there following whole fails reported =
     let long = ap length same in
     let within : i < length deal = omega arith in
     let here : held ≡ get_or deal i held = there ∙ ap (λ (hs : List Held). get_or hs i held) same in
-    let last : rest ≡ drop (i + 1) deal = behind ∙ ap (λ (hs : List Held). drop (i + 1) hs) same in
-    let ruled = subst (λ (r : Rules). IsTrue b ↔ FollowsTo r s held rest) by told in
+    let last : rest ≡ drop (i + 1) deal = following ∙ ap (λ (hs : List Held). drop (i + 1) hs) same in
+    let ruled = subst (λ (r : Rules). IsTrue b ↔ FollowsTo r s held rest) by reported in
     let again = subst (λ (hs : List Held). IsTrue b ↔ FollowsTo (rules_in passed) s held hs) last ruled in
     none_fits (FitsRecord passed deal) (λ fits.
     not_both b (FollowsTo (rules_in passed) s held (drop (i + 1) deal)) fails again (looked (rules_in passed) (steps_in passed) deal i s held is within here (whole.0 fits)).1)
@@ -88,11 +88,11 @@ pub one_more : (passed : Passed) (own : Rules) (deal given rest : List Held) (i 
     → i < length given → held ≡ get_or given i held → rest ≡ drop (i + 1) given → FitsRecord passed deal ↔ FitsFrom (rules_in passed) (steps_in passed) deal i
     → b ≡ true → IsTrue b ↔ FitsAt own s held → d ≡ true → IsTrue d ↔ FollowsTo own s held rest
     → FitsRecord passed deal ↔ FitsFrom (rules_in passed) (steps_in passed) deal (i + 1)
-one_more passed own deal given rest i s held b d by same is inside there behind whole one at two follow =
+one_more passed own deal given rest i s held b d by same is inside there following whole one at two follow =
     let long = ap length same in
     let within : i < length deal = omega arith in
     let here : held ≡ get_or deal i held = there ∙ ap (λ (hs : List Held). get_or hs i held) same in
-    let last : rest ≡ drop (i + 1) deal = behind ∙ ap (λ (hs : List Held). drop (i + 1) hs) same in
+    let last : rest ≡ drop (i + 1) deal = following ∙ ap (λ (hs : List Held). drop (i + 1) hs) same in
     let fit = subst (λ (r : Rules). FitsAt r s held) by (at.0 one) in
     let ruled = subst (λ (r : Rules). FollowsTo r s held rest) by (follow.0 two) in
     let again = subst (λ (hs : List Held). FollowsTo (rules_in passed) s held hs) last ruled in (

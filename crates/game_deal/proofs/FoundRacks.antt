@@ -13,7 +13,7 @@ use Rattle.game_deal.specs.declared.faults.DealFault.{DealFault}
 use Rattle.game_deal.specs.declared.racks.RackFinding.TheVariants as rack
 use Rattle.game_deal.specs.declared.racks.RackTrial.TheVariants as trial
 use Rattle.game_deal.specs.Bounded.{bound_in, IsBounded, FitsRecord}
-use Rattle.game_deal.specs.Faulty.{bound_told, IsFaultOf}
+use Rattle.game_deal.specs.Faulty.{bound_reported, IsFaultOf}
 use Rattle.game_deal.specs.Plain.{HaveNoExchange}
 use Rattle.game_deal.specs.Racks.{IsUndealtByRule, AreTried, AreFound}
 use Rattle.game_deal.specs.Recorded.{steps_of}
@@ -39,8 +39,8 @@ tried_open passed b bounded fails same plain =
     }
 
 -- a fault gives the first bound that is exceeded, which both a trial and a finding give
-pub tried_past : (passed : Passed) (why : DealFault) (bound : DealBound) → IsFaultOf passed why → bound_told why ≡ Some bound → bound_in passed ≡ Some bound
-tried_past passed why bound fault told = subst (λ (o : Option DealBound). IfSome o (λ b. bound_in passed ≡ Some b)) told fault
+pub tried_past : (passed : Passed) (why : DealFault) (bound : DealBound) → IsFaultOf passed why → bound_reported why ≡ Some bound → bound_in passed ≡ Some bound
+tried_past passed why bound fault reported = subst (λ (o : Option DealBound). IfSome o (λ b. bound_in passed ≡ Some b)) reported fault
 
 -- if the deal of the rule fits, some deal does
 pub dealt_found : (passed : Passed) → AreTried passed trial.Dealt → AreFound passed rack.Dealt
@@ -67,6 +67,6 @@ ends_on passed words line earlier allowed found =
       known = found.1.known;
     }
 
-pub left_open : (passed : Passed) (words : List (List ℕ)) → AreAllowed (rules_in passed) words (record_in passed).events → IsUndealtByRule passed
+pub remains_open : (passed : Passed) (words : List (List ℕ)) → AreAllowed (rules_in passed) words (record_in passed).events → IsUndealtByRule passed
     → IsUnsettled (rules_in passed) words (record_in passed).events
-left_open passed words allowed left = record { allowed = allowed; bounded = left.bounded; undealt = left.undealt; exchanged = left.exchanged }
+remains_open passed words allowed remaining = record { allowed = allowed; bounded = remaining.bounded; undealt = remaining.undealt; exchanged = remaining.exchanged }

@@ -92,9 +92,9 @@ sum-placed ps = sum-table (counted ps) ∙ sum-counted ps
 overlaps_same : (ps : List Placed) (board : List (Option Tile)) (square : ℕ) (t : Option Tile) → list_all (λ (p : Placed). nat_lt square p.square) ps ≡ true
     → overlaps board ps ≡ false → overlaps (with_tile board square t) ps ≡ false
 unfolding overlaps
-overlaps_same [] board square t behind free = refl
-overlaps_same (p ∷ ps) board square t behind free =
-    let parts = and_parts (nat_lt square p.square) (list_all (λ (q : Placed). nat_lt square q.square) ps) behind in
+overlaps_same [] board square t following free = refl
+overlaps_same (p ∷ ps) board square t following free =
+    let parts = and_parts (nat_lt square p.square) (list_all (λ (q : Placed). nat_lt square q.square) ps) following in
     let frees = or_parts (holds board p.square) (list_any (λ (q : Placed). holds board q.square) ps) free in
     let less = ltb-true square p.square parts.0 in
     let other : p.square ≡ square → ⊥ = λ (s : p.square ≡ square). absurd (omega arith) in
@@ -181,14 +181,14 @@ some_on_board d after ps long =
     let inside = meets.is_run.whole.inside in
     (met.0, met.1, on_lines run.dir met.0.square (line_of run.dir run.start) (place_of run.dir met.0.square) parts.0 refl line (omega arith))
 
-along_behind : (d : Dir) (at k : ℕ) → at ≤ along d at k
-along_behind Across at k = omega arith
-along_behind Down at k = omega arith
+along_after : (d : Dir) (at k : ℕ) → at ≤ along d at k
+along_after Across at k = omega arith
+along_after Down at k = omega arith
 
 -- no tile of a text lies before its square
-behind_start : (board : List (Option Tile)) (d : Dir) (at : ℕ) (word : List Symbol) → list_all (λ (p : Placed). nat_le at p.square) (placement_of board d at word) ≡ true
+after_start : (board : List (Option Tile)) (d : Dir) (at : ℕ) (word : List Symbol) → list_all (λ (p : Placed). nat_le at p.square) (placement_of board d at word) ≡ true
 unfolding placement_of text_cells
-behind_start board d at word = each_pass (nat_le at) board d at 0 word (λ k low high. le-leb at (along d at k) (along_behind d at k))
+after_start board d at word = each_pass (nat_le at) board d at 0 word (λ k low high. le-leb at (along d at k) (along_after d at k))
 
 -- a play without a fault is put on empty squares of the board
 pub put_free : (board : List (Option Tile)) (d : Dir) (at : ℕ) (word : List Symbol) → length board ≡ 225 → play_fault board d at word ≡ None → AreFree board (placement_of board d at word)
@@ -199,7 +199,7 @@ put_free board d at word size none =
     let text = named_text board d at word parts.0 in
     let legal = legal_parts board d ps parts.1 in
     let some = some_on_board d (with_tiles board ps) ps legal.1 in
-    let behind = leb-true at some.0.square (list_all-in (λ (p : Placed). nat_le at p.square) ps some.0 (behind_start board d at word) some.1) in
+    let following = leb-true at some.0.square (list_all-in (λ (p : Placed). nat_le at p.square) ps some.0 (after_start board d at word) some.1) in
     let last = some.2 in
     let play = is_play-parts d ps (is_play-placement_of board d at word (omega arith) text.within text.some text.few) in
     are_free ps board size play.1 play.2 legal.0

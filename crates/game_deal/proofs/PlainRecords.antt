@@ -61,9 +61,9 @@ run_given law rules own list events steps same_rules same_steps allowed =
 pub plain_given : {E : Type 0} (r : Result (Option (List Held)) E) (rules own : Rules) (events : List Event) (steps : List Step) → own ≡ rules → steps ≡ steps_of rules events
     → first_bound rules (steps_of rules events) ≡ None → IfOk r (λ deal. IsPlain steps → first_bound own steps ≡ None → IsSomeAnd deal (Fits own steps))
     → IfOk r (λ deal. HaveNoExchange events → IsSomeAnd deal (Fits rules (steps_of rules events)))
-plain_given (Err e) rules own events steps same_rules same_steps bounded told = tt
-plain_given (Ok deal) rules own events steps same_rules same_steps bounded told =
+plain_given (Err e) rules own events steps same_rules same_steps bounded reported = tt
+plain_given (Ok deal) rules own events steps same_rules same_steps bounded reported =
     let P : Rules → List Step → Type 0 = λ r xs. IsPlain xs → first_bound r xs ≡ None → IsSomeAnd deal (Fits r xs) in
-    let by_rules : P rules steps = subst (λ r. P r steps) same_rules told in
+    let by_rules : P rules steps = subst (λ r. P r steps) same_rules reported in
     let all : P rules (steps_of rules events) = subst (P rules) same_steps by_rules in
     λ none. all (plain_steps rules [] events none) bounded

@@ -124,8 +124,8 @@ refilled : (whole laid drawn own n used : ℕ) → used ≡ n → n ≤ 7 + draw
     → 7 + drawn - own - 0 - used + min n (whole - laid) ≡ 7 + ((whole - laid - (whole - (n + laid))) + drawn) - (n + own) - 0
 refilled whole laid drawn own n used e fits = omega arith
 
-bag_left : (whole laid n : ℕ) → whole - laid - min n (whole - laid) ≡ whole - (n + laid)
-bag_left whole laid n = omega arith
+bag_remaining : (whole laid n : ℕ) → whole - laid - min n (whole - laid) ≡ whole - (n + laid)
+bag_remaining whole laid n = omega arith
 
 drawn_is : (n used bag : ℕ) → used ≡ n → min n bag ≡ min used bag
 drawn_is n used bag e = ap (λ (k : ℕ). min k bag) (sym e)
@@ -136,7 +136,7 @@ laid_course : (course : (rack bag : ℕ) → Course) (whole laid drawn own n use
     ≡ course (7 + ((whole - laid - (whole - (n + laid))) + drawn) - (n + own) - 0) (whole - (n + laid))
 laid_course course whole laid drawn own n used e fits =
     ap (λ (k : ℕ). course k (whole - laid - min n (whole - laid))) (refilled whole laid drawn own n used e fits)
-    ∙ ap (course (7 + ((whole - laid - (whole - (n + laid))) + drawn) - (n + own) - 0)) (bag_left whole laid n)
+    ∙ ap (course (7 + ((whole - laid - (whole - (n + laid))) + drawn) - (n + own) - 0)) (bag_remaining whole laid n)
 
 lays_goes : (rules : Rules) (past : List Event) (line : ℕ) (player : Seat) (rack : Option (List ℕ)) (dir : Dir) (at : ℕ) (word : List Symbol) (score total : ℤ)
     → length (laid_at past dir at word) ≤ rack_at rules player false past
@@ -266,11 +266,11 @@ on_course rules list past e w before here =
     }
 
 -- and the course after it
-course_behind : (rules : Rules) (list : List (List ℕ)) (past : List Event) (e : Event) (w : Bool) → ArePast rules list past → IsNext rules list past e
+course_after : (rules : Rules) (list : List (List ℕ)) (past : List Event) (e : Event) (w : Bool) → ArePast rules list past → IsNext rules list past e
     → act_course (course_at rules (is_withdraw e.kind) past) (step_in (tally rules (is_withdraw e.kind) past) e w).player (step_in (tally rules (is_withdraw e.kind) past) e w).act
     ≡ course_at rules w (e ∷ past)
 unfolding step_in
-course_behind rules list past e w before here = (goes rules list past e w before here).1
+course_after rules list past e w before here = (goes rules list past e w before here).1
 
 -- ---- all events
 
@@ -285,7 +285,7 @@ runs_from rules list past [] before here = tt
 runs_from rules list past (e ∷ events) before here =
     let w = withdraws (slice_get events 0) in (
       on_course rules list past e w before here.0,
-      subst (λ c. IsRunFrom c (steps_after rules (e ∷ past) events)) (sym (course_behind rules list past e w before here.0))
+      subst (λ c. IsRunFrom c (steps_after rules (e ∷ past) events)) (sym (course_after rules list past e w before here.0))
           (runs_from rules list (e ∷ past) events (here.0, before) here.1),
     )
 

@@ -75,10 +75,10 @@ given_named rules list events given place e s allowed same within there state =
 pub given_step : (rules : Rules) (events given : List Event) (place : ℕ) (e : Event) (s : State) (next : Option (Bor Event)) (w : Bool) (step : Step) → given ≡ events → place < length events
     → e ≡ get_or given place e → s ≡ tally_at rules events place → is_some next ≡ nat_lt (place + 1) (length given) → IfSome next (λ x. x.now ≡ get_or given (place + 1) x.now)
     → w ≡ withdraws (option_copied next) → step ≡ step_in s e w → slice_get (steps_of rules events) place ≡ Some step
-given_step rules events given place e s next w step same within there state some behind withdrawn is =
+given_step rules events given place e s next w step same within there state some following withdrawn is =
     step_is rules events place e s w step
     (slice_get_read events (length events) place e refl within (there ∙ ap (λ (es : List Event). get_or es place e) same)) state
-    (withdrawn ∙ ap withdraws (copied_get given (place + 1) next some behind ∙ ap (λ (es : List Event). slice_get es (place + 1)) same)) is
+    (withdrawn ∙ ap withdraws (copied_get given (place + 1) next some following ∙ ap (λ (es : List Event). slice_get es (place + 1)) same)) is
 
 -- there are as many steps as events
 pub length-steps : (rules : Rules) (past events : List Event) → length (steps_after rules past events) ≡ length events

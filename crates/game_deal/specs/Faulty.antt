@@ -8,11 +8,11 @@ use Rattle.game_deal.specs.declared.faults.DealFault.TheVariants as fault
 use Rattle.game_deal.specs.Bounded.{bound_in}
 
 -- the bound that is exceeded; none if memory ran out
-abbrev pub bound_told : DealFault → Option DealBound
-bound_told (fault.RackTooBig line) = Some (bound.RackTooBig line)
-bound_told (fault.TilesShort line kind) = Some (bound.TilesShort line kind)
-bound_told fault.NoMemory = None
+abbrev pub bound_reported : DealFault → Option DealBound
+bound_reported (fault.RackTooBig line) = Some (bound.RackTooBig line)
+bound_reported (fault.TilesShort line kind) = Some (bound.TilesShort line kind)
+bound_reported fault.NoMemory = None
 
 -- a fault of a record: the first bound that a line exceeds, or that memory ran out
 abbrev pub IsFaultOf : Passed → DealFault → Type 0
-IsFaultOf passed why = IfSome (bound_told why) (λ bound. bound_in passed ≡ Some bound)
+IsFaultOf passed why = IfSome (bound_reported why) (λ bound. bound_in passed ≡ Some bound)

@@ -1,6 +1,6 @@
 //! Why a deal of a record cannot be searched for.
 ghost use Rattle.std.specs.Prelude.{◌≡◌, Some, None, IfOk, OnErr};
-ghost use Rattle.game_deal.specs.Faulty.{bound_told};
+ghost use Rattle.game_deal.specs.Faulty.{bound_reported};
 
 use deal_steps::DealBound;
 use ref_tiles::Kind;
@@ -27,7 +27,7 @@ pub enum DealFault {
 
 /// The fault that a bound is exceeded.
 pub(crate) fn exceeds(bound: DealBound) -> DealFault
-    ensures { bound_told result ≡ Some bound }
+    ensures { bound_reported result ≡ Some bound }
 {
     match bound {
         DealBound::RackTooBig { line } => DealFault::RackTooBig { line },
@@ -37,8 +37,8 @@ pub(crate) fn exceeds(bound: DealBound) -> DealFault
 
 /// The bound that is exceeded, if memory did not run out.
 pub fn exceeded_bound(fault: DealFault) -> Result<DealBound, AllocError>
-    ensures bound { IfOk result (λ bound. bound_told fault ≡ Some bound) }
-    ensures none { OnErr result (bound_told fault ≡ None) }
+    ensures bound { IfOk result (λ bound. bound_reported fault ≡ Some bound) }
+    ensures none { OnErr result (bound_reported fault ≡ None) }
 {
     match fault {
         DealFault::RackTooBig { line } => Ok(DealBound::RackTooBig { line }),

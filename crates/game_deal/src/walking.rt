@@ -29,7 +29,7 @@ pub fn starting(passed: &Passed<'_>) -> Machine
 pub fn take_step(passed: &Passed<'_>, machine: &mut Machine, place: usize) -> Step
     requires place { place < length (record_in passed.now).events }
     requires before { IsAtPlace passed.now place machine.old }
-    ensures behind { IsAtPlace passed.now (place + 1) machine.new }
+    ensures following { IsAtPlace passed.now (place + 1) machine.new }
     ensures step { slice_get (steps_of (rules_in passed.now) (record_in passed.now).events) place ≡ Some result }
 {
     let step = step_at(passed, machine, place);

@@ -7,13 +7,13 @@ use Rattle.gcg_read.specs.declared.events.EventKind.{EventKind}
 use Rattle.gcg_read.specs.declared.players.Players.{Players}
 use Rattle.gcg_read.specs.Players.{player_of}
 use Rattle.ref_play.specs.declared.plays.Play.{Play}
-use Rattle.event_notes.specs.declared.bests.TurnBest.{TurnBest}
-use Rattle.event_notes.specs.declared.bests.TurnBest.TheVariants as best
-use Rattle.event_notes.specs.declared.unlisted.SpelledWord.{SpelledWord}
+use Rattle.game_bests.specs.declared.bests.TurnBest.{TurnBest}
+use Rattle.game_bests.specs.declared.bests.TurnBest.TheVariants as best
+use Rattle.game_bests.specs.declared.unlisted.SpelledWord.{SpelledWord}
 use Rattle.game_answers.specs.declared.answers.EventAnswer.{EventAnswer}
-use Rattle.answer_json.specs.Kinds.{kind_direction, kind_number, kind_place, kind_symbols, kind_tiles}
-use Rattle.answer_json.specs.Values.{given_text, rack_value}
-use Rattle.answer_json.specs.Words.{kind_word, player_number}
+use Rattle.json_base.specs.Kinds.{kind_direction, kind_number, kind_place, kind_symbols, kind_tiles}
+use Rattle.json_base.specs.Values.{given_text, rack_value}
+use Rattle.json_base.specs.Words.{kind_word, player_number}
 use Rattle.game_json.specs.Plays.{best_object, placed_value}
 
 -- of a play the whole word, with the letters that it plays through

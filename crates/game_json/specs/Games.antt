@@ -4,32 +4,32 @@ use Rattle.std.specs.List.{range_with_len}
 use Rattle.json.specs.Json.{Json, string}
 use Rattle.json_trees.specs.Values.{Field, array_of, count, object_of, or_null}
 use Rattle.gcg_read.specs.declared.players.Player.{Player}
-use Rattle.unread_lines.specs.declared.lines.UnreadLine.{UnreadLine}
+use Rattle.gcg_unread.specs.declared.lines.UnreadLine.{UnreadLine}
 use Rattle.game_answers.specs.declared.answers.EventAnswer.{EventAnswer}
 use Rattle.game_answers.specs.declared.leaving.GameAnswers.{GameAnswers}
 use Rattle.game_answers.specs.declared.games.JudgedGame.{JudgedGame}
-use Rattle.answer_json.specs.Values.{given_text, unread_value}
-use Rattle.answer_json.specs.Verdicts.{ending_value, fault_line_value, fault_value, verdict_word}
+use Rattle.json_base.specs.Values.{given_text, unread_value}
+use Rattle.json_base.specs.Verdicts.{ending_value, fault_line_value, fault_value, verdict_word}
 use Rattle.game_json.specs.Events.{event_at}
 
 -- a player, with how many points more the best plays of the player's turns would have given in all
-abbrev pub player_fields : Player → (left : Option ℕ) → List Field
-player_fields player left =
+abbrev pub player_fields : Player → (remaining : Option ℕ) → List Field
+player_fields player remaining =
     (codes "nick", given_text player.nick)
     ∷ (codes "name", given_text player.full)
-    ∷ (codes "left", or_null (option_map count left))
+    ∷ (codes "left", or_null (option_map count remaining))
     ∷ []
 
-abbrev pub player_object : Player → (left : Option ℕ) → Json
-player_object player left = object_of (player_fields player left)
+abbrev pub player_object : Player → (remaining : Option ℕ) → Json
+player_object player remaining = object_of (player_fields player remaining)
 
-abbrev pub left_first : Option GameAnswers → Option ℕ
-left_first None = None
-left_first (Some answers) = answers.left_first
+abbrev pub remaining_first : Option GameAnswers → Option ℕ
+remaining_first None = None
+remaining_first (Some answers) = answers.remaining_first
 
-abbrev pub left_second : Option GameAnswers → Option ℕ
-left_second None = None
-left_second (Some answers) = answers.left_second
+abbrev pub remaining_second : Option GameAnswers → Option ℕ
+remaining_second None = None
+remaining_second (Some answers) = answers.remaining_second
 
 -- what is answered for the events, in their order
 abbrev pub answers_in : Option GameAnswers → List EventAnswer
@@ -47,7 +47,7 @@ judged_fields game unread =
     ∷ (codes "line", fault_line_value game.verdict)
     ∷ (codes "fault", fault_value game.verdict)
     ∷ (codes "ending", ending_value game.verdict)
-    ∷ (codes "players", array_of (player_object game.players.first (left_first game.answers) ∷ player_object game.players.second (left_second game.answers) ∷ []))
+    ∷ (codes "players", array_of (player_object game.players.first (remaining_first game.answers) ∷ player_object game.players.second (remaining_second game.answers) ∷ []))
     ∷ (codes "events", array_of (events_in game))
     ∷ (codes "unread_lines", unread_value unread)
     ∷ []

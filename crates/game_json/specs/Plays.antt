@@ -8,15 +8,15 @@ use Rattle.ref_tiles.specs.declared.kinds.Kind.TheVariants as kind
 use Rattle.ref_tiles.specs.declared.symbols.Symbol.TheVariants as symbol
 use Rattle.ref_tiles.specs.Symbols.{byte_of}
 use Rattle.ref_play.specs.declared.placed.Placed.{Placed}
-use Rattle.event_notes.specs.declared.bests.BestPlay.{BestPlay}
-use Rattle.call_stages.specs.declared.verdicts.Verdict.TheVariants as verdict
+use Rattle.game_bests.specs.declared.bests.BestPlay.{BestPlay}
+use Rattle.engine_stages.specs.declared.verdicts.Verdict.TheVariants as verdict
 use Rattle.game_answers.specs.declared.plays.ScoredPlay.{ScoredPlay}
 use Rattle.game_answers.specs.declared.tops.FoundPlays.{FoundPlays}
 use Rattle.game_answers.specs.declared.tops.FoundPlays.TheVariants as found
 use Rattle.game_answers.specs.Tops.{verdict_of}
-use Rattle.answer_json.specs.Words.{direction_word}
-use Rattle.answer_json.specs.Values.{place_value, symbols_value, tiles_value}
-use Rattle.answer_json.specs.Verdicts.{verdict_object}
+use Rattle.json_base.specs.Words.{direction_word}
+use Rattle.json_base.specs.Values.{place_value, symbols_value, tiles_value}
+use Rattle.json_base.specs.Verdicts.{verdict_object}
 
 -- a tile that is put down: a capital, or a small letter for a blank
 abbrev pub shown_byte : Kind → Letter → ℕ

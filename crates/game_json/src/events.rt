@@ -4,17 +4,17 @@ ghost use Rattle.std.specs.List.{range_with_len};
 ghost use Rattle.std.specs.Option.{option_copied};
 ghost use Rattle.json_trees.specs.Trees.{view};
 ghost use Rattle.json_trees.specs.Values.{array_of};
-ghost use Rattle.answer_json.specs.Kinds.{kind_tiles};
+ghost use Rattle.json_base.specs.Kinds.{kind_tiles};
 ghost use Rattle.game_json.specs.Events.{best_in, best_value, event_at, event_object, played_or, spelled_value, tiles_in, turn_in, turn_word, unlisted_in, word_in};
 
 use crate::plays::{best_tree, placed_tree};
-use answer_json::{
+use game_answers::EventAnswer;
+use game_bests::{SpelledWord, TurnBest};
+use gcg_read::{Event, EventKind, Players};
+use json_base::{
     given_tree, item_at, kind_direction_tree, kind_name, kind_number_tree, kind_place_tree,
     kind_symbols_tree, kind_tiles_tree, number_of, rack_tree,
 };
-use event_notes::{SpelledWord, TurnBest};
-use game_answers::EventAnswer;
-use gcg_read::{Event, EventKind, Players};
 use json_trees::{Tree, array, count_tree, integer_tree, name_tree, null_tree, object, text_tree};
 use ref_play::Play;
 use std::alloc::{AllocError, Global};

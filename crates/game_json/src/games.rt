@@ -2,48 +2,46 @@
 ghost use Rattle.std.specs.Prelude.{◌≡◌, ◌∷◌, [], IfOk};
 ghost use Rattle.json_trees.specs.Trees.{view};
 ghost use Rattle.json_trees.specs.Values.{array_of};
-ghost use Rattle.game_json.specs.Games.{answers_in, judged_object, left_first, left_second, player_object};
+ghost use Rattle.game_json.specs.Games.{answers_in, judged_object, remaining_first, remaining_second, player_object};
 
 use crate::events::events_array;
-use answer_json::{
-    ending_tree, fault_line_tree, fault_tree, given_tree, unread_array, verdict_name,
-};
 use game_answers::{EventAnswer, GameAnswers, JudgedGame};
 use gcg_read::Player;
+use gcg_unread::UnreadLine;
+use json_base::{ending_tree, fault_line_tree, fault_tree, given_tree, unread_array, verdict_name};
 use json_trees::{Tree, array, large_count_or_null, name_tree, object};
 use std::alloc::{AllocError, Global};
-use unread_lines::UnreadLine;
 
 /// A player, with the points that were left.
-fn player_tree(alloc: Global, player: &Player, left: Option<u64>) -> Result<Tree, AllocError>
-    ensures { IfOk result (λ tree. view tree ≡ player_object player.now left) }
+fn player_tree(alloc: Global, player: &Player, remaining: Option<u64>) -> Result<Tree, AllocError>
+    ensures { IfOk result (λ tree. view tree ≡ player_object player.now remaining) }
 {
     let nick = given_tree(alloc, player.nick.as_bytes())?;
     let full = given_tree(alloc, player.full.as_bytes())?;
     let fields = vec![in alloc;
         ("nick", nick),
         ("name", full),
-        ("left", large_count_or_null(left)),
+        ("left", large_count_or_null(remaining)),
     ]?;
     Ok(object(fields))
 }
 
 /// The points that the first player left.
-fn left_first(answers: &Option<GameAnswers>) -> Option<u64>
-    ensures { result ≡ left_first answers.now }
+fn remaining_first(answers: &Option<GameAnswers>) -> Option<u64>
+    ensures { result ≡ remaining_first answers.now }
 {
     match answers {
-        Some(answers) => answers.left_first,
+        Some(answers) => answers.remaining_first,
         None => None,
     }
 }
 
 /// The points that the second player left.
-fn left_second(answers: &Option<GameAnswers>) -> Option<u64>
-    ensures { result ≡ left_second answers.now }
+fn remaining_second(answers: &Option<GameAnswers>) -> Option<u64>
+    ensures { result ≡ remaining_second answers.now }
 {
     match answers {
-        Some(answers) => answers.left_second,
+        Some(answers) => answers.remaining_second,
         None => None,
     }
 }
@@ -60,11 +58,11 @@ fn answers_in(answers: &Option<GameAnswers>) -> &[EventAnswer]
 
 /// The two players.
 fn players_array(alloc: Global, game: &JudgedGame) -> Result<Tree, AllocError>
-    ensures { IfOk result (λ tree. view tree ≡ array_of (player_object game.now.players.first (left_first game.now.answers)
-        ∷ player_object game.now.players.second (left_second game.now.answers) ∷ [])) }
+    ensures { IfOk result (λ tree. view tree ≡ array_of (player_object game.now.players.first (remaining_first game.now.answers)
+        ∷ player_object game.now.players.second (remaining_second game.now.answers) ∷ [])) }
 {
-    let first = player_tree(alloc, &game.players.first, left_first(&game.answers))?;
-    let second = player_tree(alloc, &game.players.second, left_second(&game.answers))?;
+    let first = player_tree(alloc, &game.players.first, remaining_first(&game.answers))?;
+    let second = player_tree(alloc, &game.players.second, remaining_second(&game.answers))?;
     let trees = vec![in alloc; first, second]?;
     Ok(array(trees))
 }

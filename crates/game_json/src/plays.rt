@@ -3,8 +3,8 @@ ghost use Rattle.std.specs.Prelude.{◌≡◌, IfOk};
 ghost use Rattle.json_trees.specs.Trees.{view};
 ghost use Rattle.game_json.specs.Plays.{best_object, placed_byte, placed_value};
 
-use answer_json::{direction_of, place_tree, symbols_tree};
-use event_notes::BestPlay;
+use game_bests::BestPlay;
+use json_base::{direction_of, place_tree, symbols_tree};
 use json_trees::{Tree, integer_tree, large_integer_tree, name_tree, object, text_tree};
 use ref_play::Placed;
 use ref_tiles::{Kind, Symbol};

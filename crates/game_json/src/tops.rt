@@ -4,8 +4,8 @@ ghost use Rattle.json_trees.specs.Trees.{view};
 ghost use Rattle.json_trees.specs.Values.{array_of};
 ghost use Rattle.game_json.specs.Plays.{found_object, play_object, plays_object};
 
-use answer_json::{direction_of, place_tree, symbols_tree, tiles_tree, verdict_tree};
 use game_answers::{FoundPlays, ScoredPlay};
+use json_base::{direction_of, place_tree, symbols_tree, tiles_tree, verdict_tree};
 use json_trees::{Tree, array, integer_tree, name_tree, null_tree, object};
 use ref_tiles::Counts;
 use std::alloc::{AllocError, Global};

@@ -40,24 +40,24 @@ same_tile a b is =
     known_tile a.kind b.kind a.shown b.shown a.proper b.proper (same_kind a.kind b.kind parts.0) (alike a.shown b.shown parts.1)
 
 same_cell : (same : Tile → Tile → Bool) → ((a b : Tile) → same a b ≡ true → a ≡ b) → (x y : Option Tile) → option_eq same x y ≡ true → x ≡ y
-same_cell same tells None None is = refl
-same_cell same tells None (Some b) is = cc
-same_cell same tells (Some a) None is = cc
-same_cell same tells (Some a) (Some b) is = ap Some (tells a b is)
+same_cell same reports None None is = refl
+same_cell same reports None (Some b) is = cc
+same_cell same reports (Some a) None is = cc
+same_cell same reports (Some a) (Some b) is = ap Some (reports a b is)
 
 pub same_board : (same : Tile → Tile → Bool) → ((a b : Tile) → same a b ≡ true → a ≡ b) → (xs ys : List (Option Tile)) → pointwise (option_eq same) xs ys ≡ true → xs ≡ ys
-same_board same tells [] [] is = refl
-same_board same tells [] (y ∷ ys) is = cc
-same_board same tells (x ∷ xs) [] is = cc
-same_board same tells (x ∷ xs) (y ∷ ys) is =
+same_board same reports [] [] is = refl
+same_board same reports [] (y ∷ ys) is = cc
+same_board same reports (x ∷ xs) [] is = cc
+same_board same reports (x ∷ xs) (y ∷ ys) is =
     let parts = and_parts (option_eq same x y) (pointwise (option_eq same) xs ys) is in
-    ap (λ z. z ∷ xs) (same_cell same tells x y parts.0) ∙ ap (λ zs. y ∷ zs) (same_board same tells xs ys parts.1)
+    ap (λ z. z ∷ xs) (same_cell same reports x y parts.0) ∙ ap (λ zs. y ∷ zs) (same_board same reports xs ys parts.1)
 
 -- racks whose numbers are the same
 pub same_numbers : (same : ℕ → ℕ → Bool) → ((a b : ℕ) → same a b ≡ true → a ≡ b) → (xs ys : List ℕ) → pointwise same xs ys ≡ true → xs ≡ ys
-same_numbers same tells [] [] is = refl
-same_numbers same tells [] (y ∷ ys) is = cc
-same_numbers same tells (x ∷ xs) [] is = cc
-same_numbers same tells (x ∷ xs) (y ∷ ys) is =
+same_numbers same reports [] [] is = refl
+same_numbers same reports [] (y ∷ ys) is = cc
+same_numbers same reports (x ∷ xs) [] is = cc
+same_numbers same reports (x ∷ xs) (y ∷ ys) is =
     let parts = and_parts (same x y) (pointwise same xs ys) is in
-    ap (λ z. z ∷ xs) (tells x y parts.0) ∙ ap (λ zs. y ∷ zs) (same_numbers same tells xs ys parts.1)
+    ap (λ z. z ∷ xs) (reports x y parts.0) ∙ ap (λ zs. y ∷ zs) (same_numbers same reports xs ys parts.1)

@@ -59,13 +59,13 @@ pub record Step (rules : Rules) (words : List (List ℕ)) (s t : State) (follow 
 pub step_at : (rules : Rules) (list words : List (List ℕ)) (events shown : List Event) (place : ℕ) (e : Event) (machine : Machine) (t : State) (follow : Follow)
     → AreAllowed rules list events → place < length events → shown ≡ events → e ≡ get_or shown place e → length (board_of follow) ≡ 225
     → StandAt rules words events place machine follow → t ≡ tally_at rules events (place + 1) → Step rules words (state_of machine) t follow (is_withdraw e.kind)
-step_at rules list words events shown place e machine t follow allowed below shows read size stand behind =
+step_at rules list words events shown place e machine t follow allowed below shows read size stand following =
     let same : (tally_at rules events place).board ≡ board_of follow = sym (ap (λ (x : State). x.board) stand.state) ∙ sym stand.beside.board in
     let moves = moves_at rules list events place e allowed below (read_there shown events place e shows below read) (ap length same ∙ size) in
     record {
       moves =
           subst (λ (x : State). Moves x t (is_withdraw e.kind) (latest_tiles t.latest)) (sym stand.state)
-          (subst (λ (x : State). Moves (tally_at rules events place) x (is_withdraw e.kind) (latest_tiles x.latest)) (sym behind) moves);
+          (subst (λ (x : State). Moves (tally_at rules events place) x (is_withdraw e.kind) (latest_tiles x.latest)) (sym following) moves);
       beside = stand.beside;
     }
 

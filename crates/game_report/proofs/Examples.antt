@@ -19,7 +19,7 @@ unfolding unlisted_text is_listed
 two_unlisted = refl
 
 -- a line of a report
-pass_is_told : line_with (record { first = record { nick = codes "Ann"; full = [] }; second = record { nick = codes "Bo"; full = [] } })
+pass_is_reported : line_with (record { first = record { nick = codes "Ann"; full = [] }; second = record { nick = codes "Bo"; full = [] } })
     (Some (record { line = 7; player = Second; rack = None; kind = kind.Pass; score = pos 0; total = pos 41 })) [] ≡ codes "7 Bo - +0 41\n"
 unfolding digits event_text_of kind_text
-pass_is_told = refl
+pass_is_reported = refl

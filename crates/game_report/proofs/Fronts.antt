@@ -11,7 +11,7 @@ use Rattle.gen_sinks.specs.Sinks.{seen_pair}
 use Rattle.gen_sinks.specs.Ranks.{ranks_before}
 use Rattle.gen_sinks.proofs.Ranking.{first_of_first}
 use Rattle.game_notes.specs.Keeping.{AreFirstPlays}
-use Rattle.game_report.specs.TopPlays.{AreLegal, top_text, TellsFirst}
+use Rattle.game_report.specs.TopPlays.{AreLegal, top_text, ReportsFirst}
 
 pub fewer_plays : (many n : ℕ) (rules : Rules) (words : List (List ℕ)) (board : List (Option Tile)) (rack : List ℕ) (plays : List Given) → n ≤ many
     → AreFirstPlays many rules words board rack plays → AreFirstPlays n rules words board rack (take n plays)
@@ -28,7 +28,7 @@ legal_plays n rules list board rack kept plays are same place scored below =
     (are.first.some (seen_pair (get_or plays place scored)) there)).0.legal
 
 -- the lines of the first n of the plays that were kept are those of the first n of all
-pub front_told : (many n : ℕ) (rules : Rules) (list : List (List ℕ)) (board : List (Option Tile)) (rack : List ℕ) (kept seen : List Given) (text : List ℕ) → n ≤ many
-    → AreFirstPlays many rules list board rack kept → seen ≡ kept → text ≡ top_text board (take n seen) → TellsFirst n rules list board rack text
-front_told many n rules list board rack kept seen text few are same told =
-    (take n kept, fewer_plays many n rules list board rack kept few are, told ∙ ap (λ plays. top_text board (take n plays)) same)
+pub front_reported : (many n : ℕ) (rules : Rules) (list : List (List ℕ)) (board : List (Option Tile)) (rack : List ℕ) (kept seen : List Given) (text : List ℕ) → n ≤ many
+    → AreFirstPlays many rules list board rack kept → seen ≡ kept → text ≡ top_text board (take n seen) → ReportsFirst n rules list board rack text
+front_reported many n rules list board rack kept seen text few are same reported =
+    (take n kept, fewer_plays many n rules list board rack kept few are, reported ∙ ap (λ plays. top_text board (take n plays)) same)

@@ -13,63 +13,63 @@ use Rattle.gcg_write.specs.Normal.{event_text_of}
 use Rattle.game_turns.specs.LatestEvents.{standing_words}
 use Rattle.game_turns.specs.Tallies.{State, tally, tally_at, withdraws}
 use Rattle.lex_list.specs.Words.{is_listed}
-use Rattle.game_report.specs.BestPlays.{TellsBest, TellsBestAt, Appends}
+use Rattle.game_report.specs.BestPlays.{ReportsBest, ReportsBestAt, Appends}
 use Rattle.game_report.specs.EventLines.{unlisted_word, unlisted_text, line_with, event_line, lines_from, IsEventLine, AreEventLines}
 
 -- one more line after those from a place on
-lines_more : (rules : Rules) (list : List (List ℕ)) (r : Record) (place : ℕ) (best : List (List ℕ)) (told : List ℕ)
-    → lines_from rules list r place (best ++ told ∷ []) ≡ lines_from rules list r place best ++ event_line rules list r (place + length best) told
-lines_more rules list r place [] told =
+lines_more : (rules : Rules) (list : List (List ℕ)) (r : Record) (place : ℕ) (best : List (List ℕ)) (reported : List ℕ)
+    → lines_from rules list r place (best ++ reported ∷ []) ≡ lines_from rules list r place best ++ event_line rules list r (place + length best) reported
+lines_more rules list r place [] reported =
     let same : place + 0 ≡ place = omega arith in
-    rw same (append-nil (event_line rules list r place told))
-lines_more rules list r place (first ∷ best) told =
+    rw same (append-nil (event_line rules list r place reported))
+lines_more rules list r place (first ∷ best) reported =
     let same : place + 1 + length best ≡ place + length (first ∷ best) = omega arith in
-    ap (λ t. event_line rules list r place first ++ t) (lines_more rules list r (place + 1) best told)
-    ∙ sym (append_assoc (event_line rules list r place first) (lines_from rules list r (place + 1) best) (event_line rules list r (place + 1 + length best) told))
-    ∙ ap (λ n. (event_line rules list r place first ++ lines_from rules list r (place + 1) best) ++ event_line rules list r n told) same
+    ap (λ t. event_line rules list r place first ++ t) (lines_more rules list r (place + 1) best reported)
+    ∙ sym (append_assoc (event_line rules list r place first) (lines_from rules list r (place + 1) best) (event_line rules list r (place + 1 + length best) reported))
+    ∙ ap (λ n. (event_line rules list r place first ++ lines_from rules list r (place + 1) best) ++ event_line rules list r n reported) same
 
 -- what is said at each place, with one more
-told_more : (rules : Rules) (list : List (List ℕ)) (r : Record) (many : ℕ) (best : List (List ℕ)) (told : List ℕ) → length best ≡ many
-    → ((place : ℕ) → place < many → TellsBestAt rules list r.events place (slice_index_or best place [])) → TellsBestAt rules list r.events many told
-    → (place : ℕ) → place < many + 1 → TellsBestAt rules list r.events place (slice_index_or (best ++ told ∷ []) place [])
-told_more rules list r many best told count each tells place below =
+reported_more : (rules : Rules) (list : List (List ℕ)) (r : Record) (many : ℕ) (best : List (List ℕ)) (reported : List ℕ) → length best ≡ many
+    → ((place : ℕ) → place < many → ReportsBestAt rules list r.events place (slice_index_or best place [])) → ReportsBestAt rules list r.events many reported
+    → (place : ℕ) → place < many + 1 → ReportsBestAt rules list r.events place (slice_index_or (best ++ reported ∷ []) place [])
+reported_more rules list r many best reported count each reports place below =
     ⊎_elim
     (λ (e : place ≡ many).
     let none : place - length best ≡ 0 = omega arith in
-    let here : get_or (best ++ told ∷ []) place [] ≡ told = get_or-append_right best (told ∷ []) (length best) place [] refl (omega arith) ∙ ap (λ k. get_or (told ∷ []) k []) none in
-    subst (λ t. TellsBestAt rules list r.events place t) (sym here) (subst (λ k. TellsBestAt rules list r.events k told) (sym e) tells))
+    let here : get_or (best ++ reported ∷ []) place [] ≡ reported = get_or-append_right best (reported ∷ []) (length best) place [] refl (omega arith) ∙ ap (λ k. get_or (reported ∷ []) k []) none in
+    subst (λ t. ReportsBestAt rules list r.events place t) (sym here) (subst (λ k. ReportsBestAt rules list r.events k reported) (sym e) reports))
     (λ (ne : place ≡ many → ⊥).
-    let there : get_or (best ++ told ∷ []) place [] ≡ get_or best place [] = get_or_append_left best (told ∷ []) [] place (omega arith) in
-    subst (λ t. TellsBestAt rules list r.events place t) (sym there) (each place (omega arith)))
+    let there : get_or (best ++ reported ∷ []) place [] ≡ get_or best place [] = get_or_append_left best (reported ∷ []) [] place (omega arith) in
+    subst (λ t. ReportsBestAt rules list r.events place t) (sym there) (each place (omega arith)))
     (cases_eq place many)
 
 -- one more line after those so far
 pub one_more_line : (rules : Rules) (list : List (List ℕ)) (r : Record) (start old new : List ℕ) (place : ℕ) → Appends (AreEventLines rules list r place) start old → Appends (IsEventLine rules list r place) old new
     → Appends (AreEventLines rules list r (place + 1)) start new
 one_more_line rules list r start old new place lines line =
-    let are = lines.is_told in
-    let is = line.is_told in
+    let are = lines.is_reported in
+    let is = line.is_reported in
     record {
-      told = lines.told ++ line.told;
-      is_told = record {
+      reported = lines.reported ++ line.reported;
+      is_reported = record {
         best = are.best ++ is.best ∷ [];
         count = let long = length-append are.best (is.best ∷ []) in let many = are.count in omega arith;
-        each = told_more rules list r place are.best is.best are.count are.each is.tells;
+        each = reported_more rules list r place are.best is.best are.count are.each is.reports;
         are =
             let many = are.count in let same : 0 + length are.best ≡ place = omega arith in
-            ap (λ t. t ++ line.told) are.are ∙ ap (λ t. lines_from rules list r 0 are.best ++ t) (is.is ∙ ap (λ n. event_line rules list r n is.best) (sym same))
+            ap (λ t. t ++ line.reported) are.are ∙ ap (λ t. lines_from rules list r 0 are.best ++ t) (is.is ∙ ap (λ n. event_line rules list r n is.best) (sym same))
             ∙ sym (lines_more rules list r 0 are.best is.best);
       };
-      behind = line.behind ∙ ap (λ t. t ++ line.told) lines.behind ∙ append_assoc start lines.told line.told;
+      following = line.following ∙ ap (λ t. t ++ line.reported) lines.following ∙ append_assoc start lines.reported line.reported;
     }
 
 -- no lines yet
 pub no_lines : (rules : Rules) (list : List (List ℕ)) (r : Record) (text : List ℕ) → Appends (AreEventLines rules list r 0) text text
 no_lines rules list r text =
     record {
-      told = [];
-      is_told = record { best = []; count = refl; each = λ place below. absurd (omega (arith, below)); are = refl };
-      behind = sym (append-nil text);
+      reported = [];
+      is_reported = record { best = []; count = refl; each = λ place below. absurd (omega (arith, below)); are = refl };
+      following = sym (append-nil text);
     }
 
 -- the tally before the first event, whatever that is
@@ -85,8 +85,8 @@ start_of_game rules events s start = start ∙ same_start rules (withdraws (slic
 pub some_unlisted : (list words : List (List ℕ)) (start old new : List ℕ) → false ≡ list_all (is_listed list) words → old ≡ start ++ codes " unlisted" → new ≡ old ++ flat_map (unlisted_word list) words
     → new ≡ start ++ unlisted_text list words
 unfolding unlisted_text
-some_unlisted list words start old new some before told =
-    rw (← some) (told ∙ ap (λ t. t ++ flat_map (unlisted_word list) words) before ∙ append_assoc start (codes " unlisted") (flat_map (unlisted_word list) words))
+some_unlisted list words start old new some before reported =
+    rw (← some) (reported ∙ ap (λ t. t ++ flat_map (unlisted_word list) words) before ∙ append_assoc start (codes " unlisted") (flat_map (unlisted_word list) words))
 
 pieces : (start head blank event best unlisted end : List ℕ)
     → ((((start ++ (head ++ blank)) ++ event) ++ best) ++ unlisted) ++ end ≡ start ++ (((head ++ (blank ++ event)) ++ (best ++ unlisted)) ++ end)
@@ -117,10 +117,10 @@ known events place e f a b = let both : Some e ≡ Some f = sym a ∙ b in cc
 pub line_is : (rules : Rules) (list : List (List ℕ)) (game r : Record) (place : ℕ) (s : State) (shown : List Event) (e : Event) (nick start headed evented bested worded new : List ℕ) (words : List (List ℕ))
     → game ≡ r → s ≡ tally_at rules r.events place → place < length r.events → shown ≡ game.events → e ≡ get_or shown place e → nick ≡ (player_of game.players e.player).nick
     → headed ≡ start ++ (decimal e.line ++ 32 ∷ nick ++ 32 ∷ []) → HoldsAt (λ event. evented ≡ headed ++ event_text_of event) game.events place
-    → Appends (TellsBest rules list s e) evented bested → words ≡ standing_words (tally_at rules r.events (place + 1)).latest
+    → Appends (ReportsBest rules list s e) evented bested → words ≡ standing_words (tally_at rules r.events (place + 1)).latest
     → worded ≡ bested ++ unlisted_text list words → new ≡ worded ++ 10 ∷ []
     → Appends (IsEventLine rules list r place) start new
-line_is rules list game r place s shown e nick start headed evented bested worded new words same state below shows read named head event best told unlisted last =
+line_is rules list game r place s shown e nick start headed evented bested worded new words same state below shows read named head event best reported unlisted last =
     let all : shown ≡ r.events = shows ∙ ap (λ (g : Record). g.events) same in
     let stands = read_there shown r.events place e all below read in
     let name : nick ≡ (player_of r.players e.player).nick = named ∙ ap (λ (g : Record). (player_of g.players e.player).nick) same in
@@ -128,15 +128,15 @@ line_is rules list game r place s shown e nick start headed evented bested worde
     let text : evented ≡ headed ++ event_text_of e = subst (λ (x : Event). evented ≡ headed ++ event_text_of x) there (event e) in
     let latest = standing_words (tally_at rules r.events (place + 1)).latest in
     record {
-      told = event_line rules list r place best.told;
-      is_told = record {
-        best = best.told;
-        tells = λ f at. subst (λ x. TellsBest rules list (tally_at rules r.events place) x best.told) (known r.events place e f stands at) (subst (λ x. TellsBest rules list x e best.told) state best.is_told);
+      reported = event_line rules list r place best.reported;
+      is_reported = record {
+        best = best.reported;
+        reports = λ f at. subst (λ x. ReportsBest rules list (tally_at rules r.events place) x best.reported) (known r.events place e f stands at) (subst (λ x. ReportsBest rules list x e best.reported) state best.is_reported);
         is = refl;
       };
-      behind =
-          last ∙ ap (λ t. t ++ 10 ∷ []) (unlisted ∙ ap (λ ws. bested ++ unlisted_text list ws) told
-          ∙ ap (λ t. t ++ unlisted_text list latest) (best.behind ∙ ap (λ t. t ++ best.told) (text ∙ ap (λ t. t ++ event_text_of e) (head ∙ ap (λ n. start ++ (decimal e.line ++ 32 ∷ n ++ 32 ∷ [])) name))))
-          ∙ parts start (decimal e.line) (player_of r.players e.player).nick (event_text_of e) best.told (unlisted_text list latest)
-          ∙ ap (λ t. start ++ t) (sym (line_parts rules list r place e best.told stands));
+      following =
+          last ∙ ap (λ t. t ++ 10 ∷ []) (unlisted ∙ ap (λ ws. bested ++ unlisted_text list ws) reported
+          ∙ ap (λ t. t ++ unlisted_text list latest) (best.following ∙ ap (λ t. t ++ best.reported) (text ∙ ap (λ t. t ++ event_text_of e) (head ∙ ap (λ n. start ++ (decimal e.line ++ 32 ∷ n ++ 32 ∷ [])) name))))
+          ∙ parts start (decimal e.line) (player_of r.players e.player).nick (event_text_of e) best.reported (unlisted_text list latest)
+          ∙ ap (λ t. start ++ t) (sym (line_parts rules list r place e best.reported stands));
     }

@@ -12,7 +12,7 @@ use Rattle.ref_play.specs.Candidates.{IsCandidate}
 use Rattle.ref_play.specs.Best.{Given, given_of}
 use Rattle.game_notes.specs.Tops.{AreTop}
 use Rattle.gen_sinks.specs.Sinks.{seen_pair}
-use Rattle.game_report.specs.TopPlays.{play_line, top_text, AreLegal, TellsTop}
+use Rattle.game_report.specs.TopPlays.{play_line, top_text, AreLegal, ReportsTop}
 
 -- the play at a place is legal
 pub legal_at : (board : List (Option Tile)) (plays : List (Play × ℤ)) (place : ℕ) (scored : Play × ℤ) → AreLegal board plays → place < length plays → scored ≡ get_or plays place scored
@@ -39,7 +39,7 @@ plays_are_legal rules list board rack kept plays are same place scored below =
     (are.first.some (seen_pair (get_or plays place scored)) there)).0.legal
 
 -- the text that has them
-pub tells_top : (rules : Rules) (list : List (List ℕ)) (board there : List (Option Tile)) (rack : List ℕ) (kept : List Given) (plays : List (Play × ℤ)) (text : List ℕ) → board ≡ there
-    → AreTop rules list board rack kept → map seen_pair plays ≡ kept → text ≡ top_text board (map seen_pair plays) → TellsTop rules list there rack text
-tells_top rules list board there rack kept plays text at are same told =
-    subst (λ b. TellsTop rules list b rack text) at (kept, are, told ∙ ap (top_text board) same)
+pub reports_top : (rules : Rules) (list : List (List ℕ)) (board there : List (Option Tile)) (rack : List ℕ) (kept : List Given) (plays : List (Play × ℤ)) (text : List ℕ) → board ≡ there
+    → AreTop rules list board rack kept → map seen_pair plays ≡ kept → text ≡ top_text board (map seen_pair plays) → ReportsTop rules list there rack text
+reports_top rules list board there rack kept plays text at are same reported =
+    subst (λ b. ReportsTop rules list b rack text) at (kept, are, reported ∙ ap (top_text board) same)

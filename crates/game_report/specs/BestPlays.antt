@@ -41,21 +41,21 @@ best_text board None = codes " best none"
 best_text board (Some given) = codes " best " ++ notation_text (notation_of board given.tiles) ++ 32 ∷ signed_decimal given.score
 
 -- a full rack gives the best play on the board, or that there is none; ' best -' says that the rack is not full
-abbrev pub TellsByRack : Rules → (list : List (List ℕ)) → (board : List (Option Tile)) → Option (List ℕ) → List ℕ → Type 0
-TellsByRack rules list board None told = told ≡ codes " best -"
-TellsByRack rules list board (Some rack) told = (answer : Option Given) × IsAnnotation rules list board rack answer × (told ≡ best_text board answer)
+abbrev pub ReportsByRack : Rules → (list : List (List ℕ)) → (board : List (Option Tile)) → Option (List ℕ) → List ℕ → Type 0
+ReportsByRack rules list board None reported = reported ≡ codes " best -"
+ReportsByRack rules list board (Some rack) reported = (answer : Option Given) × IsAnnotation rules list board rack answer × (reported ≡ best_text board answer)
 
 -- what the line of an event says of the best play, by the state before the event
-pub record TellsBest (rules : Rules) (list : List (List ℕ)) (s : State) (e : Event) (told : List ℕ) : Type 0 where
-  pub judged : is_judged s.out e.kind ≡ true → TellsByRack rules list s.board (full_rack s e) told
-  pub silent : is_judged s.out e.kind ≡ false → told ≡ []
+pub record ReportsBest (rules : Rules) (list : List (List ℕ)) (s : State) (e : Event) (reported : List ℕ) : Type 0 where
+  pub judged : is_judged s.out e.kind ≡ true → ReportsByRack rules list s.board (full_rack s e) reported
+  pub silent : is_judged s.out e.kind ≡ false → reported ≡ []
 
 -- the same for the event at a place of a record, counted from 0
-abbrev pub TellsBestAt : Rules → (list : List (List ℕ)) → List Event → ℕ → List ℕ → Type 0
-TellsBestAt rules list events place told = (e : Event) → slice_get events place ≡ Some e → TellsBest rules list (tally_at rules events place) e told
+abbrev pub ReportsBestAt : Rules → (list : List (List ℕ)) → List Event → ℕ → List ℕ → Type 0
+ReportsBestAt rules list events place reported = (e : Event) → slice_get events place ≡ Some e → ReportsBest rules list (tally_at rules events place) e reported
 
 -- the text is appended
-pub record Appends (IsTold : List ℕ → Type 0) (old new : List ℕ) : Type 0 where
-  pub told : List ℕ
-  pub is_told : IsTold told
-  pub behind : new ≡ old ++ told
+pub record Appends (IsReported : List ℕ → Type 0) (old new : List ℕ) : Type 0 where
+  pub reported : List ℕ
+  pub is_reported : IsReported reported
+  pub following : new ≡ old ++ reported

@@ -10,7 +10,7 @@ use Rattle.gcg_write.specs.Normal.{event_text_of}
 use Rattle.lex_list.specs.Words.{is_listed}
 use Rattle.game_turns.specs.LatestEvents.{standing_words}
 use Rattle.game_turns.specs.Tallies.{tally_at}
-use Rattle.game_report.specs.BestPlays.{TellsBestAt}
+use Rattle.game_report.specs.BestPlays.{ReportsBestAt}
 
 -- a word after a space, if it is not in the list
 abbrev pub unlisted_word : (list : List (List ℕ)) → List ℕ → List ℕ
@@ -20,10 +20,10 @@ unlisted_word list word = if is_listed list word then [] else 32 ∷ word
 unfoldable pub unlisted_text : (list : List (List ℕ)) → List (List ℕ) → List ℕ
 unlisted_text list words = if list_all (is_listed list) words then [] else codes " unlisted" ++ flat_map (unlisted_word list) words
 
-abbrev pub line_with : Players → Option Event → (told : List ℕ) → List ℕ
-line_with players None told = []
-line_with players (Some event) told =
-    decimal event.line ++ 32 ∷ (player_of players event.player).nick ++ 32 ∷ event_text_of event ++ told ++ 10 ∷ []
+abbrev pub line_with : Players → Option Event → (reported : List ℕ) → List ℕ
+line_with players None reported = []
+line_with players (Some event) reported =
+    decimal event.line ++ 32 ∷ (player_of players event.player).nick ++ 32 ∷ event_text_of event ++ reported ++ 10 ∷ []
 
 -- N NICK EVENT SCORE TOTAL, what is said of the best play, and for a play that stands its words that are not in the list:
 -- the line of the event at a place, counted from 0, N its line in the record
@@ -34,17 +34,17 @@ event_line rules list r place best =
 -- that line, with what it says of the best play
 pub record IsEventLine (rules : Rules) (list : List (List ℕ)) (r : Record) (place : ℕ) (line : List ℕ) : Type 0 where
   pub best : List ℕ
-  pub tells : TellsBestAt rules list r.events place best
+  pub reports : ReportsBestAt rules list r.events place best
   pub is : line ≡ event_line rules list r place best
 
 -- the lines of events from a place on, one for each text about a best play
 abbrev pub lines_from : Rules → (list : List (List ℕ)) → Record → ℕ → (best : List (List ℕ)) → List ℕ
 lines_from rules list r place [] = []
-lines_from rules list r place (told ∷ best) = event_line rules list r place told ++ lines_from rules list r (place + 1) best
+lines_from rules list r place (reported ∷ best) = event_line rules list r place reported ++ lines_from rules list r (place + 1) best
 
 -- The lines of the first events of a record, with what each says of the best play.
 pub record AreEventLines (rules : Rules) (list : List (List ℕ)) (r : Record) (many : ℕ) (lines : List ℕ) : Type 0 where
   pub best : List (List ℕ)
   pub count : length best ≡ many
-  pub each : (place : ℕ) → place < many → TellsBestAt rules list r.events place (slice_index_or best place [])
+  pub each : (place : ℕ) → place < many → ReportsBestAt rules list r.events place (slice_index_or best place [])
   pub are : lines ≡ lines_from rules list r 0 best

@@ -32,9 +32,9 @@ abbrev pub board_after : Rules → List Event → List (Option Tile)
 board_after rules events = (tally_at rules events (length events)).board
 
 -- the text has the best `n` candidates by a rack on a board
-abbrev pub TellsFirst : ℕ → Rules → (list : List (List ℕ)) → (board : List (Option Tile)) → (rack : List ℕ) → (text : List ℕ) → Type 0
-TellsFirst number rules list board rack text = (plays : List Given) × AreFirstPlays number rules list board rack plays × (text ≡ top_text board plays)
+abbrev pub ReportsFirst : ℕ → Rules → (list : List (List ℕ)) → (board : List (Option Tile)) → (rack : List ℕ) → (text : List ℕ) → Type 0
+ReportsFirst number rules list board rack text = (plays : List Given) × AreFirstPlays number rules list board rack plays × (text ≡ top_text board plays)
 
 -- the text has the ten best candidates by a rack on a board
-abbrev pub TellsTop : Rules → (list : List (List ℕ)) → (board : List (Option Tile)) → (rack : List ℕ) → (text : List ℕ) → Type 0
-TellsTop rules list board rack text = (plays : List Given) × AreTop rules list board rack plays × (text ≡ top_text board plays)
+abbrev pub ReportsTop : Rules → (list : List (List ℕ)) → (board : List (Option Tile)) → (rack : List ℕ) → (text : List ℕ) → Type 0
+ReportsTop rules list board rack text = (plays : List Given) × AreTop rules list board rack plays × (text ≡ top_text board plays)

@@ -3,10 +3,9 @@ ghost use Rattle.std.specs.{Prelude.{◌≡◌, ◌++◌, ◌∷◌, OnOk, optio
 ghost use Rattle.ref_play.specs.{Legality.{IsLegal}, Notations.{notation_of}, Best.{IsAnnotation}};
 ghost use Rattle.game_turns.specs.{Machines.{state_of}, Passing.{rules_in}};
 ghost use Rattle.lex_check.specs.Pairs.{list_in};
-ghost use Rattle.game_report.specs.{Beside.{StandsBeside}, BestPlays.{is_judged, full_rack, notation_text, best_text, TellsByRack, TellsBest, Appends}};
+ghost use Rattle.game_report.specs.{Beside.{StandsBeside}, BestPlays.{is_judged, full_rack, notation_text, best_text, ReportsByRack, ReportsBest, Appends}};
 ghost use Rattle.game_notes.specs.{Following.{board_of, Follows}, Latest.{AreBests}};
 
-use decimal_text::push_number;
 use game_notes::{Follow, LatestBests};
 use game_turns::{Machine, Passed};
 use gcg_read::{Event, EventKind, Seat};
@@ -16,6 +15,7 @@ use ref_board::Board;
 use ref_play::{Play, notation};
 use ref_tiles::{Counts, Rules};
 use std::alloc::AllocError;
+use text_decimals::push_number;
 
 /// Whether the line of an event shows the rack of a turn, if this player, or none, is out before it.
 pub fn is_judged(kind: &EventKind, out: Option<Seat>) -> bool
@@ -69,7 +69,7 @@ fn push_best_play(
 ) -> Result<(), AllocError>
     requires follows { Follows rules.now (list_in pair.now) follow.now }
     requires latest { AreBests rules.now (list_in pair.now) latest.old }
-    ensures best { OnOk result (Appends (TellsByRack rules.now (list_in pair.now) (board_of follow.now) (Some rack.now)) text.old.items text.new.items) }
+    ensures best { OnOk result (Appends (ReportsByRack rules.now (list_in pair.now) (board_of follow.now) (Some rack.now)) text.old.items text.new.items) }
     ensures latest { AreBests rules.now (list_in pair.now) latest.new }
 {
     match latest.best(follow, rules, pair, rack) {
@@ -94,7 +94,7 @@ pub fn push_best(
 ) -> Result<(), AllocError>
     requires stands { StandsBeside (rules_in passed.now) (list_in pair.now) (state_of machine.now) follow.now }
     requires latest { AreBests (rules_in passed.now) (list_in pair.now) latest.old }
-    ensures best { OnOk result (Appends (TellsBest (rules_in passed.now) (list_in pair.now) (state_of machine.now) event.now)
+    ensures best { OnOk result (Appends (ReportsBest (rules_in passed.now) (list_in pair.now) (state_of machine.now) event.now)
         text.old.items text.new.items) }
     ensures latest { AreBests (rules_in passed.now) (list_in pair.now) latest.new }
 {

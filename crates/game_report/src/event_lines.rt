@@ -10,7 +10,6 @@ ghost use Rattle.game_report.specs.EventLines.{unlisted_word, unlisted_text, Are
 
 use crate::best_plays::push_best;
 use crate::replaying::follow_event;
-use decimal_text::push_number;
 use game_notes::{Follow, LatestBests};
 use game_turns::{Machine, Passed, all_listed};
 use gcg_write::event_text;
@@ -18,6 +17,7 @@ use lex_check::Checked;
 use lex_list::WordList;
 use ref_play::Word;
 use std::alloc::AllocError;
+use text_decimals::push_number;
 
 /// Appends the number of a line and a nickname, and a space after each.
 fn push_heading(text: &mut Vec<u8>, line: u32, nick: &[u8]) -> Result<(), AllocError>

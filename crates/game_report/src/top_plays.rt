@@ -4,7 +4,7 @@ ghost use Rattle.ref_play.specs.Legality.{IsLegal};
 ghost use Rattle.gen_sinks.specs.Sinks.{seen_pair};
 ghost use Rattle.game_turns.specs.Passing.{rules_in, record_in};
 ghost use Rattle.game_notes.specs.Following.{board_of, Follows};
-ghost use Rattle.game_report.specs.TopPlays.{play_line, top_text, AreLegal, board_after, TellsFirst, TellsTop};
+ghost use Rattle.game_report.specs.TopPlays.{play_line, top_text, AreLegal, board_after, ReportsFirst, ReportsTop};
 ghost use Rattle.lex_check.specs.Pairs.{list_in};
 
 use crate::best_plays::push_scored;
@@ -70,7 +70,7 @@ pub fn top_report(
     pair: &Checked<'_>,
     rack: &Counts,
 ) -> Result<Vec<u8>, AllocError>
-    ensures { IfOk result (λ text. TellsTop (rules_in passed.now) (list_in pair.now)
+    ensures { IfOk result (λ text. ReportsTop (rules_in passed.now) (list_in pair.now)
         (board_after (rules_in passed.now) (record_in passed.now).events) rack.now text.items) }
 {
     let follow = follow_all(passed, pair);
@@ -121,7 +121,7 @@ pub fn best_lines(
     number: usize,
 ) -> Result<Vec<u8>, AllocError>
     requires { number ≤ 100 }
-    ensures { IfOk result (λ text. TellsFirst number rules.now (list_in pair.now) board.now rack.now text.items) }
+    ensures { IfOk result (λ text. ReportsFirst number rules.now (list_in pair.now) board.now rack.now text.items) }
 {
     if number <= FEW {
         let few: Top<FEW> = top_many(rules, pair, board, rack);

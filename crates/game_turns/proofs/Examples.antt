@@ -77,8 +77,8 @@ abbrev ended : List Event
 ended = retains ∷ other_rack (pos 88) ∷ []
 
 -- The list of what comes before the event after these.
-abbrev behind : List Event → List Event
-behind events = reverse events
+abbrev following : List Event → List Event
+following events = reverse events
 
 abbrev listed : List (List ℕ)
 listed = codes "WORD" ∷ []
@@ -92,95 +92,95 @@ either_moves_first : mover_at english false [] ≡ None
 unfolding english english_premiums short most_tiles letter_at empty_board stretches_on runs_along words_formed letters_of fault_of overlaps has_gap has_no_tile misses_centre is_too_short is_apart text_cells placement_of text_fault mismatches is_open_ended score_of letters_score words_factor is_listed counted tally fault_at
 either_moves_first = refl
 
-second_moves_next : mover_at english false (behind (word ∷ [])) ≡ Some Second
+second_moves_next : mover_at english false (following (word ∷ [])) ≡ Some Second
 unfolding english english_premiums short most_tiles letter_at empty_board stretches_on runs_along words_formed letters_of fault_of overlaps has_gap has_no_tile misses_centre is_too_short is_apart text_cells placement_of text_fault mismatches is_open_ended score_of letters_score words_factor is_listed counted tally fault_at
 second_moves_next = refl
 
-no_turn_yet : mover_at english true (behind word_and_at) ≡ Some Second
+no_turn_yet : mover_at english true (following word_and_at) ≡ Some Second
 unfolding english english_premiums short most_tiles letter_at empty_board stretches_on runs_along words_formed letters_of fault_of overlaps has_gap has_no_tile misses_centre is_too_short is_apart text_cells placement_of text_fault mismatches is_open_ended score_of letters_score words_factor is_listed counted tally fault_at
 no_turn_yet = refl
 
-first_moves_after_withdrawal : mover_at english false (behind (word_and_at ++ withdraw_at ∷ [])) ≡ Some First
+first_moves_after_withdrawal : mover_at english false (following (word_and_at ++ withdraw_at ∷ [])) ≡ Some First
 unfolding english english_premiums short most_tiles letter_at empty_board stretches_on runs_along words_formed letters_of fault_of overlaps has_gap has_no_tile misses_centre is_too_short is_apart text_cells placement_of text_fault mismatches is_open_ended score_of letters_score words_factor is_listed counted tally fault_at
 first_moves_after_withdrawal = refl
 
-bag_after_six_tiles : bag_after english (standing false (behind word_and_at)) ≡ 80
+bag_after_six_tiles : bag_after english (standing false (following word_and_at)) ≡ 80
 unfolding english english_premiums short most_tiles letter_at empty_board stretches_on runs_along words_formed letters_of fault_of overlaps has_gap has_no_tile misses_centre is_too_short is_apart text_cells placement_of text_fault mismatches is_open_ended score_of letters_score words_factor is_listed counted tally fault_at
 bag_after_six_tiles = refl
 
-bag_with_a_play_to_withdraw : bag_after english (standing true (behind word_and_at)) ≡ 82
+bag_with_a_play_to_withdraw : bag_after english (standing true (following word_and_at)) ≡ 82
 unfolding english english_premiums short most_tiles letter_at empty_board stretches_on runs_along words_formed letters_of fault_of overlaps has_gap has_no_tile misses_centre is_too_short is_apart text_cells placement_of text_fault mismatches is_open_ended score_of letters_score words_factor is_listed counted tally fault_at
 bag_with_a_play_to_withdraw = refl
 
-rack_is_filled : rack_at english Second false (behind word_and_at) ≡ 7
+rack_is_filled : rack_at english Second false (following word_and_at) ≡ 7
 unfolding english english_premiums short most_tiles letter_at empty_board stretches_on runs_along words_formed letters_of fault_of overlaps has_gap has_no_tile misses_centre is_too_short is_apart text_cells placement_of text_fault mismatches is_open_ended score_of letters_score words_factor is_listed counted tally fault_at
 rack_is_filled = refl
 
-rack_is_not_filled : rack_at english Second true (behind word_and_at) ≡ 5
+rack_is_not_filled : rack_at english Second true (following word_and_at) ≡ 5
 unfolding english english_premiums short most_tiles letter_at empty_board stretches_on runs_along words_formed letters_of fault_of overlaps has_gap has_no_tile misses_centre is_too_short is_apart text_cells placement_of text_fault mismatches is_open_ended score_of letters_score words_factor is_listed counted tally fault_at
 rack_is_not_filled = refl
 
-rack_is_given_back : rack_at english Second false (behind (word_and_at ++ withdraw_at ∷ [])) ≡ 7
+rack_is_given_back : rack_at english Second false (following (word_and_at ++ withdraw_at ∷ [])) ≡ 7
 unfolding english english_premiums short most_tiles letter_at empty_board stretches_on runs_along words_formed letters_of fault_of overlaps has_gap has_no_tile misses_centre is_too_short is_apart text_cells placement_of text_fault mismatches is_open_ended score_of letters_score words_factor is_listed counted tally fault_at
 rack_is_given_back = refl
 
-bag_is_empty : rack_at short First false (behind (retains ∷ [])) ≡ 0
+bag_is_empty : rack_at short First false (following (retains ∷ [])) ≡ 0
 unfolding english english_premiums short most_tiles letter_at empty_board stretches_on runs_along words_formed letters_of fault_of overlaps has_gap has_no_tile misses_centre is_too_short is_apart text_cells placement_of text_fault mismatches is_open_ended score_of letters_score words_factor is_listed counted tally fault_at
 bag_is_empty = refl
 
-withdrawn_tiles_are_gone : board_at false (behind (word_and_at ++ withdraw_at ∷ [])) ≡ board_at false (behind (word ∷ []))
+withdrawn_tiles_are_gone : board_at false (following (word_and_at ++ withdraw_at ∷ [])) ≡ board_at false (following (word ∷ []))
 unfolding english english_premiums short most_tiles letter_at empty_board stretches_on runs_along words_formed letters_of fault_of overlaps has_gap has_no_tile misses_centre is_too_short is_apart text_cells placement_of text_fault mismatches is_open_ended score_of letters_score words_factor is_listed counted tally fault_at
 withdrawn_tiles_are_gone = refl
 
-total_of_both : total_at Second (behind (word_and_at ++ withdraw_at ∷ [])) ≡ pos 0
+total_of_both : total_at Second (following (word_and_at ++ withdraw_at ∷ [])) ≡ pos 0
 unfolding english english_premiums short most_tiles letter_at empty_board stretches_on runs_along words_formed letters_of fault_of overlaps has_gap has_no_tile misses_centre is_too_short is_apart text_cells placement_of text_fault mismatches is_open_ended score_of letters_score words_factor is_listed counted tally fault_at
 total_of_both = refl
 
-six_idle_turns : zero_run_at english false (behind six_passes) ≡ 6
+six_idle_turns : zero_run_at english false (following six_passes) ≡ 6
 unfolding english english_premiums short most_tiles letter_at empty_board stretches_on runs_along words_formed letters_of fault_of overlaps has_gap has_no_tile misses_centre is_too_short is_apart text_cells placement_of text_fault mismatches is_open_ended score_of letters_score words_factor is_listed counted tally fault_at
 six_idle_turns = refl
 
-seven_idle_turns : zero_run_at english false (behind (six_passes ++ pass First ∷ [])) ≡ 6
+seven_idle_turns : zero_run_at english false (following (six_passes ++ pass First ∷ [])) ≡ 6
 unfolding english english_premiums short most_tiles letter_at empty_board stretches_on runs_along words_formed letters_of fault_of overlaps has_gap has_no_tile misses_centre is_too_short is_apart text_cells placement_of text_fault mismatches is_open_ended score_of letters_score words_factor is_listed counted tally fault_at
 seven_idle_turns = refl
 
-a_play_ends_the_run : zero_run_at english false (behind (six_passes ++ word ∷ [])) ≡ 0
+a_play_ends_the_run : zero_run_at english false (following (six_passes ++ word ∷ [])) ≡ 0
 unfolding english english_premiums short most_tiles letter_at empty_board stretches_on runs_along words_formed letters_of fault_of overlaps has_gap has_no_tile misses_centre is_too_short is_apart text_cells placement_of text_fault mismatches is_open_ended score_of letters_score words_factor is_listed counted tally fault_at
 a_play_ends_the_run = refl
 
-withdrawn_play_in_the_run : zero_run_at english false (behind (pass Second ∷ word ∷ event_by First kind.Withdraw (negsuc 15) (pos 0) ∷ [])) ≡ 2
+withdrawn_play_in_the_run : zero_run_at english false (following (pass Second ∷ word ∷ event_by First kind.Withdraw (negsuc 15) (pos 0) ∷ [])) ≡ 2
 unfolding english english_premiums short most_tiles letter_at empty_board stretches_on runs_along words_formed letters_of fault_of overlaps has_gap has_no_tile misses_centre is_too_short is_apart text_cells placement_of text_fault mismatches is_open_ended score_of letters_score words_factor is_listed counted tally fault_at
 withdrawn_play_in_the_run = refl
 
-first_is_out : out_at short false (behind (retains ∷ [])) ≡ Some First
+first_is_out : out_at short false (following (retains ∷ [])) ≡ Some First
 unfolding english english_premiums short most_tiles letter_at empty_board stretches_on runs_along words_formed letters_of fault_of overlaps has_gap has_no_tile misses_centre is_too_short is_apart text_cells placement_of text_fault mismatches is_open_ended score_of letters_score words_factor is_listed counted tally fault_at
 first_is_out = refl
 
-not_out_while_it_waits : out_at short true (behind (retains ∷ [])) ≡ None
+not_out_while_it_waits : out_at short true (following (retains ∷ [])) ≡ None
 unfolding english english_premiums short most_tiles letter_at empty_board stretches_on runs_along words_formed letters_of fault_of overlaps has_gap has_no_tile misses_centre is_too_short is_apart text_cells placement_of text_fault mismatches is_open_ended score_of letters_score words_factor is_listed counted tally fault_at
 not_out_while_it_waits = refl
 
-idle_pass_is_no_turn : mover_at short false (behind (retains ∷ pass Second ∷ [])) ≡ Some Second
+idle_pass_is_no_turn : mover_at short false (following (retains ∷ pass Second ∷ [])) ≡ Some Second
 unfolding english english_premiums short most_tiles letter_at empty_board stretches_on runs_along words_formed letters_of fault_of overlaps has_gap has_no_tile misses_centre is_too_short is_apart text_cells placement_of text_fault mismatches is_open_ended score_of letters_score words_factor is_listed counted tally fault_at
 idle_pass_is_no_turn = refl
 
-idle_pass_is_spent : has_idle_pass short (behind (retains ∷ pass Second ∷ [])) ≡ true
+idle_pass_is_spent : has_idle_pass short (following (retains ∷ pass Second ∷ [])) ≡ true
 unfolding english english_premiums short most_tiles letter_at empty_board stretches_on runs_along words_formed letters_of fault_of overlaps has_gap has_no_tile misses_centre is_too_short is_apart text_cells placement_of text_fault mismatches is_open_ended score_of letters_score words_factor is_listed counted tally fault_at
 idle_pass_is_spent = refl
 
-time_is_spent : has_time First (behind (event_by First kind.Time (negsuc 4) (negsuc 4) ∷ [])) ≡ true
+time_is_spent : has_time First (following (event_by First kind.Time (negsuc 4) (negsuc 4) ∷ [])) ≡ true
 unfolding english english_premiums short most_tiles letter_at empty_board stretches_on runs_along words_formed letters_of fault_of overlaps has_gap has_no_tile misses_centre is_too_short is_apart text_cells placement_of text_fault mismatches is_open_ended score_of letters_score words_factor is_listed counted tally fault_at
 time_is_spent = refl
 
-complete_after_out : is_complete short (behind ended) ≡ true
+complete_after_out : is_complete short (following ended) ≡ true
 unfolding english english_premiums short most_tiles letter_at empty_board stretches_on runs_along words_formed letters_of fault_of overlaps has_gap has_no_tile misses_centre is_too_short is_apart text_cells placement_of text_fault mismatches is_open_ended score_of letters_score words_factor is_listed counted tally fault_at
 complete_after_out = refl
 
-complete_after_two_racks : is_complete english (behind (six_passes ++ event_by First (kind.LastRack []) (pos 0) (pos 0) ∷ event_by Second (kind.LastRack []) (pos 0) (pos 0) ∷ [])) ≡ true
+complete_after_two_racks : is_complete english (following (six_passes ++ event_by First (kind.LastRack []) (pos 0) (pos 0) ∷ event_by Second (kind.LastRack []) (pos 0) (pos 0) ∷ [])) ≡ true
 unfolding english english_premiums short most_tiles letter_at empty_board stretches_on runs_along words_formed letters_of fault_of overlaps has_gap has_no_tile misses_centre is_too_short is_apart text_cells placement_of text_fault mismatches is_open_ended score_of letters_score words_factor is_listed counted tally fault_at
 complete_after_two_racks = refl
 
-unfinished_after_one_rack : is_complete english (behind (six_passes ++ event_by First (kind.LastRack []) (pos 0) (pos 0) ∷ [])) ≡ false
+unfinished_after_one_rack : is_complete english (following (six_passes ++ event_by First (kind.LastRack []) (pos 0) (pos 0) ∷ [])) ≡ false
 unfolding english english_premiums short most_tiles letter_at empty_board stretches_on runs_along words_formed letters_of fault_of overlaps has_gap has_no_tile misses_centre is_too_short is_apart text_cells placement_of text_fault mismatches is_open_ended score_of letters_score words_factor is_listed counted tally fault_at
 unfinished_after_one_rack = refl
 

@@ -79,21 +79,21 @@ allowed_more rules list events end before here place below =
     (cases_eq place end)
 
 -- a step of a machine from the tally at a place: its answer gives the fault there
-pub fault_told : (rules : Rules) (list : List (List ℕ)) (events : List Event) (place : ℕ) (e : Event) (machine : Machine) (o : Option RuleFault)
+pub fault_reported : (rules : Rules) (list : List (List ℕ)) (events : List Event) (place : ℕ) (e : Event) (machine : Machine) (o : Option RuleFault)
     → place < length events → e ≡ get_or events place e → rules_of machine ≡ rules → state_of machine ≡ tally_at rules events place
     → fault_in (rules_of machine) list (state_of machine) e ≡ o → fault_at rules list events place ≡ o
-fault_told rules list events place e machine o within is same_rules same_state told =
+fault_reported rules list events place e machine o within is same_rules same_state reported =
     fault_here rules list events place e (slice_get_read events (length events) place e refl within is)
     ∙ sym (ap (λ r. fault_in r list (tally_at rules events place) e) same_rules)
-    ∙ sym (ap (λ t. fault_in (rules_of machine) list t e) same_state) ∙ told
+    ∙ sym (ap (λ t. fault_in (rules_of machine) list t e) same_state) ∙ reported
 
 -- and leaves the tally at the next place
-pub state_left : NextTallyIsAfter → (rules : Rules) (list : List (List ℕ)) (events : List Event) (place : ℕ) (e : Event) (machine : Machine) (new : State) (next : Option Event)
+pub state_remaining : NextTallyIsAfter → (rules : Rules) (list : List (List ℕ)) (events : List Event) (place : ℕ) (e : Event) (machine : Machine) (new : State) (next : Option Event)
     → place < length events → e ≡ get_or events place e → rules_of machine ≡ rules → state_of machine ≡ tally_at rules events place
     → next ≡ slice_get events (place + 1) → AreAllowedTo rules list events (place + 1) → new ≡ after (rules_of machine) (state_of machine) e (withdraws next)
     → new ≡ tally_at rules events (place + 1)
-state_left law rules list events place e machine new next within is same_rules same_state same_next allowed left =
-    left ∙ ap (λ r. after r (state_of machine) e (withdraws next)) same_rules ∙ ap (λ t. after rules t e (withdraws next)) same_state
+state_remaining law rules list events place e machine new next within is same_rules same_state same_next allowed remaining =
+    remaining ∙ ap (λ r. after r (state_of machine) e (withdraws next)) same_rules ∙ ap (λ t. after rules t e (withdraws next)) same_state
     ∙ ap (λ o. after rules (tally_at rules events place) e (withdraws o)) same_next
     ∙ law rules list events place e (slice_get_read events (length events) place e refl within is) allowed
 

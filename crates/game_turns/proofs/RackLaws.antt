@@ -108,7 +108,7 @@ waits_other laid seat other p e =
 pub fit_waiting : (sides scored new : Sides) (event : LatestEvent) (seat : Seat) (total : ℤ) (rack : ℕ) (laid : Laid) → FitRacks sides event → scored ≡ with_total sides seat total
     → length laid.play.tiles.items ≤ (side_of sides seat).rack → rack ≡ (side_of sides seat).rack - length laid.play.tiles.items
     → laid.player ≡ seat → new ≡ with_rack scored seat rack → FitRacks new (latest.Played laid)
-fit_waiting sides scored new event seat total rack laid fit totals few left player is =
+fit_waiting sides scored new event seat total rack laid fit totals few remaining player is =
     let idle = fit_scored sides scored event seat total fit totals in
     fit_rack scored new latest.Other (latest.Played laid) seat rack idle
     (let most = waits_few laid seat in let f = idle seat in let same = scored_rack sides scored seat total totals in omega arith)

@@ -6,13 +6,13 @@ use Rattle.game_turns.specs.Machines.{rules_of, state_of}
 use Rattle.game_turns.specs.Tallies.{State}
 
 -- an answer gives this fault, or none
-abbrev pub Tells : {A : Type 0} → Result A RuleFault → Option RuleFault → Type 0
-Tells (Ok _) fault = fault ≡ None
-Tells (Err why) fault = fault ≡ Some why
+abbrev pub Reports : {A : Type 0} → Result A RuleFault → Option RuleFault → Type 0
+Reports (Ok _) fault = fault ≡ None
+Reports (Err why) fault = fault ≡ Some why
 
 -- If there is no fault, the machine takes the event and is then in this state. With a fault it is as it was.
 pub record Takes {A : Type 0} (result : Result A RuleFault) (old new : Machine) (fault : Option RuleFault) (after : State) : Type 0 where
-  pub told : Tells result fault
+  pub reported : Reports result fault
   pub state : OnOk result (state_of new ≡ after)
   pub rules : rules_of new ≡ rules_of old
   pub refused : OnErr result (new ≡ old)

@@ -2,7 +2,7 @@
 ghost use Rattle.std.specs.Prelude.{◌≡◌, ◌≤◌, ◌≤ℤ◌, ◌*◌, neg_ℤ, pos, true, false, length, sum, Some, IfOk, IfErr, OnOk};
 ghost use Rattle.ref_play.specs.Legality.{IsLegal};
 ghost use Rattle.ref_play.specs.Texts.{placement_of};
-ghost use Rattle.game_turns.specs.Answers.{Tells};
+ghost use Rattle.game_turns.specs.Answers.{Reports};
 ghost use Rattle.game_turns.specs.Seats.{side_of, same_seat};
 ghost use Rattle.game_turns.specs.Tallies.{latest_play};
 ghost use Rattle.game_turns.specs.Checks.{most_points, is_over, may_idle, play_fault, total_after, check_score, check_total, check_turn, check_play, check_pass, check_exchange, check_time, check_withdraw, check_challenge, check_other_rack, check_own_rack, check_last_rack, is_stale};
@@ -36,7 +36,7 @@ pub fn legal_play(board: &Board, at: Square, dir: Dir, word: &[Symbol]) -> Resul
 
 /// Checks that a score is the expected one.
 fn check_score(points: Points, expected: i32) -> Result<(), RuleFault>
-    ensures { Tells result (check_score points expected) }
+    ensures { Reports result (check_score points expected) }
 {
     if points.value() != expected {
         return Err(RuleFault::WrongScore(expected));
@@ -66,7 +66,7 @@ impl Machine {
 
     /// Checks that it is the player's turn.
     fn check_turn(&self, event: &Event) -> Result<(), RuleFault>
-        ensures { Tells result (check_turn (state_of self.now) event.now) }
+        ensures { Reports result (check_turn (state_of self.now) event.now) }
     {
         if !may_move(self.mover, event.player) {
             return Err(RuleFault::NotYourTurn);
@@ -83,7 +83,7 @@ impl Machine {
 
     /// Checks that the total is what the player had plus the event's score.
     fn check_total(&self, event: &Event) -> Result<(), RuleFault>
-        ensures told { Tells result (check_total (state_of self.now) event.now) }
+        ensures reported { Reports result (check_total (state_of self.now) event.now) }
         ensures total { OnOk result (event.now.total ≡ total_after (state_of self.now) event.now) }
     {
         let total = self.total_after(event);
@@ -103,7 +103,7 @@ impl Machine {
         word: &[Symbol],
         stands: bool,
     ) -> Result<Laid, RuleFault>
-        ensures told { Tells result (check_play self.now.rules (state_of self.now) event.now dir at word.now) }
+        ensures reported { Reports result (check_play self.now.rules (state_of self.now) event.now dir at word.now) }
         ensures laid { IfOk result (λ laid.
             play_of laid ≡ latest_play self.now.rules self.now.board event.now.player dir at word.now stands) }
         ensures legal { IfOk result (λ laid. IsLegal self.now.board laid.play.tiles.items) }
@@ -138,7 +138,7 @@ impl Machine {
     /// Checks a pass.
     #[tactic(auto, unfolding(crate::specs::Checks::check_pass))]
     pub(crate) fn check_pass(&self, event: &Event) -> Result<(), RuleFault>
-        ensures told { Tells result (check_pass (state_of self.now) event.now) }
+        ensures reported { Reports result (check_pass (state_of self.now) event.now) }
         ensures total { OnOk result (event.now.total ≡ total_after (state_of self.now) event.now) }
     {
         if self.is_over() && !self.may_idle(event.player) {
@@ -152,7 +152,7 @@ impl Machine {
     /// Checks an exchange of this number of tiles.
     #[tactic(auto, unfolding(crate::specs::Checks::check_exchange))]
     pub(crate) fn check_exchange(&self, event: &Event, size: usize) -> Result<(), RuleFault>
-        ensures told { Tells result (check_exchange self.now.rules (state_of self.now) event.now size) }
+        ensures reported { Reports result (check_exchange self.now.rules (state_of self.now) event.now size) }
         ensures total { OnOk result (event.now.total ≡ total_after (state_of self.now) event.now) }
     {
         if self.is_over() {
@@ -172,7 +172,7 @@ impl Machine {
     /// Checks a time penalty.
     #[tactic(auto, unfolding(crate::specs::Checks::check_time))]
     pub(crate) fn check_time(&self, event: &Event) -> Result<(), RuleFault>
-        ensures told { Tells result (check_time self.now.rules (state_of self.now) event.now) }
+        ensures reported { Reports result (check_time self.now.rules (state_of self.now) event.now) }
         ensures total { OnOk result (event.now.total ≡ total_after (state_of self.now) event.now) }
     {
         let is_penalty = is_penalty(self.rules.time_step, event.score.value());
@@ -193,7 +193,7 @@ impl Machine {
     /// listed.
     #[tactic(auto, unfolding(crate::specs::Checks::check_withdraw))]
     pub(crate) fn check_withdraw(&self, event: &Event, list: &WordList) -> Result<(), RuleFault>
-        ensures told { Tells result
+        ensures reported { Reports result
             (check_withdraw list.now (state_of self.now) event.now (latest_of self.now.latest)) }
         ensures awaits { OnOk result (IsAwaited self.now.latest event.now.player) }
         ensures total { OnOk result (event.now.total ≡ total_after (state_of self.now) event.now) }
@@ -215,7 +215,7 @@ impl Machine {
     /// the bonus is for one of its listed words or more.
     #[tactic(auto, unfolding(crate::specs::Checks::check_challenge))]
     pub(crate) fn check_challenge(&self, event: &Event, list: &WordList) -> Result<(), RuleFault>
-        ensures told { Tells result
+        ensures reported { Reports result
             (check_challenge self.now.rules list.now (state_of self.now) event.now (latest_of self.now.latest)) }
         ensures total { OnOk result (event.now.total ≡ total_after (state_of self.now) event.now) }
     {
@@ -238,7 +238,7 @@ impl Machine {
     /// Checks the last rack of the other player, if a player is out.
     #[tactic(auto, unfolding(crate::specs::Checks::check_other_rack))]
     fn check_other_rack(&self, event: &Event, tiles: &Counts, out: Seat) -> Result<(), RuleFault>
-        ensures told { Tells result
+        ensures reported { Reports result
             (check_other_rack self.now.rules (state_of self.now) event.now tiles.now out) }
         ensures total { OnOk result (event.now.total ≡ total_after (state_of self.now) event.now) }
     {
@@ -255,7 +255,7 @@ impl Machine {
     /// Checks the player's own last rack, after the zero run.
     #[tactic(auto, unfolding(crate::specs::Checks::check_own_rack))]
     fn check_own_rack(&self, event: &Event, tiles: &Counts) -> Result<(), RuleFault>
-        ensures told { Tells result (check_own_rack self.now.rules (state_of self.now) event.now tiles.now) }
+        ensures reported { Reports result (check_own_rack self.now.rules (state_of self.now) event.now tiles.now) }
         ensures total { OnOk result (event.now.total ≡ total_after (state_of self.now) event.now) }
     {
         if self.sides.of(event.player).ended {
@@ -271,7 +271,7 @@ impl Machine {
     /// Checks a last rack.
     #[tactic(auto, unfolding(crate::specs::Checks::check_last_rack))]
     pub(crate) fn check_last_rack(&self, event: &Event, tiles: &Counts) -> Result<(), RuleFault>
-        ensures told { Tells result (check_last_rack self.now.rules (state_of self.now) event.now tiles.now) }
+        ensures reported { Reports result (check_last_rack self.now.rules (state_of self.now) event.now tiles.now) }
         ensures total { OnOk result (event.now.total ≡ total_after (state_of self.now) event.now) }
     {
         if self.complete {

@@ -25,7 +25,7 @@ fn refusal_of(event: &Event, fault: RuleFault) -> (u32, RuleFault)
 
 /// The event after a place of a record, if there is one.
 #[tactic(auto, using(crate::proofs::PlaceLaws::copied_get))]
-pub(crate) fn event_behind(events: &[Event], place: usize) -> Option<&Event>
+pub(crate) fn event_after(events: &[Event], place: usize) -> Option<&Event>
     requires { place < length events.now }
     ensures { option_copied result ≡ slice_get events.now (place + 1) }
 {
@@ -53,7 +53,7 @@ pub fn play_events(
     let mut machine = Machine::new(rules);
     for place in 0..end {
         let event = &events[place];
-        if let Err(fault) = machine.step(event, event_behind(events, place), list) {
+        if let Err(fault) = machine.step(event, event_after(events, place), list) {
             return Err(refusal_of(event, fault));
         }
     }

@@ -6,7 +6,7 @@ ghost use Rattle.game_turns.specs.Tallies.{tally_at};
 use crate::laws::law_of_tallies;
 use crate::machine::Machine;
 use crate::passed::Passed;
-use crate::playing::event_behind;
+use crate::playing::event_after;
 
 impl Passed<'_> {
     ghost use Rattle.game_turns.specs.Passing.{rules_in, record_in, list_in};
@@ -21,7 +21,7 @@ impl Passed<'_> {
     {
         law_of_tallies();
         let events = self.record.events.as_slice();
-        let Ok(_) = machine.step(&events[place], event_behind(events, place), self.list) else {
+        let Ok(_) = machine.step(&events[place], event_after(events, place), self.list) else {
             unreachable!()
         };
     }

@@ -1,7 +1,7 @@
 //! A step of the machine: the checks of an event, and then its change.
 ghost use Rattle.std.specs.Prelude.{◌≡◌, not, sum, IfOk, OnOk, OnErr};
 ghost use Rattle.std.specs.Option.{option_copied};
-ghost use Rattle.game_turns.specs.Answers.{Tells, Takes};
+ghost use Rattle.game_turns.specs.Answers.{Reports, Takes};
 ghost use Rattle.game_turns.specs.Tallies.{withdraws, latest_play};
 ghost use Rattle.game_turns.specs.Checks.{check_play, check_pass, check_exchange, check_withdraw, check_challenge, check_time, check_last_rack, check_kind, interrupts, fault_in};
 ghost use Rattle.game_turns.specs.Changes.{after_play, after_pass, after_idle, after_withdraw, after_challenge, after_time, after_last_rack, after_kind, after, turn_of};
@@ -168,7 +168,7 @@ impl Machine {
         next: Option<&Event>,
         list: &WordList,
     ) -> Result<Turn, RuleFault>
-        ensures told { Tells result (fault_in (rules_of self.old) list.now (state_of self.old) event.now) }
+        ensures reported { Reports result (fault_in (rules_of self.old) list.now (state_of self.old) event.now) }
         ensures turn { IfOk result (λ turn.
             turn ≡ turn_of (state_of self.old) event.now (withdraws (option_copied next.entry))) }
         ensures state { OnOk result (state_of self.new

@@ -70,9 +70,9 @@ blank_and_return : completed_text (codes ">A: -- -16 " ++ 13 ∷ 10 ∷ codes "#
 unfolding completed_text completed_line completed lacks_in fields_of
 blank_and_return = refl
 
-left_alone : completed_text (codes ">A: (time)" ++ 10 ∷ []) ≡ codes ">A: (time)" ++ 10 ∷ []
+untouched : completed_text (codes ">A: (time)" ++ 10 ∷ []) ≡ codes ">A: (time)" ++ 10 ∷ []
 unfolding completed_text completed_line completed lacks_in fields_of
-left_alone = refl
+untouched = refl
 
 two_lines : missing_in (codes ">A: 8E WORD" ++ 10 ∷ codes "x" ++ 10 ∷ codes ">B: - +0 0") ≡ missing.Both ∷ missing.Nothing ∷ []
 unfolding missing_in lacks_in fields_of lines_in

@@ -1,7 +1,7 @@
 pub mod Rounds
 pub mod Steps
 pub mod FirstBytes
-pub mod Told
+pub mod Reported
 pub mod Readings
 pub mod Own
 mod Examples

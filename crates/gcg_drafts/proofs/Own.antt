@@ -17,10 +17,10 @@ use Rattle.gcg_read.specs.Players.{no_players}
 use Rattle.gcg_read.specs.Records.{with_line, record_from, record_of, no_record}
 use Rattle.gcg_write.proofs.Each.{Each}
 use Rattle.gcg_write.proofs.Inversions.{both, stepped, ok_same}
-use Rattle.gcg_write.proofs.LineCuts.{returns, ends_behind}
+use Rattle.gcg_write.proofs.LineCuts.{returns, ends_after}
 use Rattle.gcg_write.proofs.Parts.{drop_more}
 use Rattle.gcg_write.proofs.Splitting.{Fails, first_place}
-use Rattle.gcg_numbers.specs.Numbers.{behind_colon, in_line, is_event_line, mark_of}
+use Rattle.gcg_numbers.specs.Numbers.{after_colon, in_line, is_event_line, mark_of}
 use Rattle.gcg_numbers.proofs.Entries.{entered}
 use Rattle.gcg_numbers.proofs.Heads.{Colon, cut, head_cut, named_other, no_head, changed_cut}
 use Rattle.gcg_numbers.proofs.Lines.{Cons, cons, begins}
@@ -31,23 +31,23 @@ use Rattle.gcg_drafts.specs.declared.missing.Missing.{Missing}
 use Rattle.gcg_drafts.specs.declared.missing.Missing.TheVariants as missing
 use Rattle.gcg_drafts.specs.Lacks.{lacks_in}
 use Rattle.gcg_drafts.specs.Texts.{completed_by, completed, completed_line, completed_text, missing_by, missing_on, missing_in}
-use Rattle.gcg_drafts.specs.Laws.{many_of, IsTold, HasNoScore, MeansItself, OwnDraft}
-use Rattle.gcg_drafts.proofs.Told.{lacks_are_told}
+use Rattle.gcg_drafts.specs.Laws.{count_of, IsReported, HasNoScore, MeansItself, OwnDraft}
+use Rattle.gcg_drafts.proofs.Reported.{lacks_are_reported}
 
 -- ---- the fields of an event lack nothing
 
-nothing_by : (m : Missing) → many_of m ≡ 0 → m ≡ missing.Nothing
+nothing_by : (m : Missing) → count_of m ≡ 0 → m ≡ missing.Nothing
 nothing_by missing.Nothing e = refl
 nothing_by missing.Total e = absurd (omega (arith, e))
 nothing_by missing.Both e = absurd (omega (arith, e))
 
-whole_by : (fields : List (List ℕ)) (e : Event) → IsTold fields [] ⊎ HasNoScore fields [] e → lacks_in fields ≡ Ok missing.Nothing
-whole_by fields e (inl t) = t.told ∙ ap (λ m. Ok m) (nothing_by t.lacks t.many)
+whole_by : (fields : List (List ℕ)) (e : Event) → IsReported fields [] ⊎ HasNoScore fields [] e → lacks_in fields ≡ Ok missing.Nothing
+whole_by fields e (inl t) = t.reported ∙ ap (λ m. Ok m) (nothing_by t.lacks t.many)
 whole_by fields e (inr h) = absurd (omega (arith, h.many))
 
 whole : (heading : Heading) (fields : List (List ℕ)) (e : Event) → event_of heading fields ≡ Ok e → lacks_in fields ≡ Ok missing.Nothing
 whole heading fields e read =
-    whole_by fields e (lacks_are_told heading fields [] e (omega arith) (ap (event_of heading) (append-nil fields) ∙ read))
+    whole_by fields e (lacks_are_reported heading fields [] e (omega arith) (ap (event_of heading) (append-nil fields) ∙ read))
 
 -- ---- one line
 
@@ -60,7 +60,7 @@ after_cut before after first = ap (λ k. drop (k + 1) (before ++ 58 ∷ after)) 
 
 -- an event line with nothing amiss, after its '>'
 record IsWhole (line : List ℕ) : Type 0 where
-  stays : behind_colon completed line ≡ line
+  stays : after_colon completed line ≡ line
   lacks : lacks_in (fields_of (after_first is_colon line)) ≡ Ok missing.Nothing
 
 whole_cut : (byte : ℕ) (text : List ℕ) (head : Named) → (byte == 62) ≡ true → head_of text ≡ Some head → lacks_in (fields_of head.after) ≡ Ok missing.Nothing
@@ -72,7 +72,7 @@ whole_cut byte text head is_event headed lacks (inr c) =
     let is : byte ∷ text ≡ (byte ∷ c.before) ++ 58 ∷ c.after = ap (λ l. byte ∷ l) c.whole in
     let own : lacks_in (fields_of c.after) ≡ Ok missing.Nothing = ap (λ l. lacks_in (fields_of l)) (sym there.0) ∙ lacks in
     record {
-      stays = ap (behind_colon completed) is ∙ changed_cut completed (byte ∷ c.before) c.after first ∙ ap (λ l. (byte ∷ c.before) ++ 58 ∷ l) (stays_after c.after own) ∙ sym is;
+      stays = ap (after_colon completed) is ∙ changed_cut completed (byte ∷ c.before) c.after first ∙ ap (λ l. (byte ∷ c.before) ++ 58 ∷ l) (stays_after c.after own) ∙ sym is;
       lacks = ap (λ l. lacks_in (fields_of (after_first is_colon l))) is ∙ ap (λ l. lacks_in (fields_of l)) (after_cut (byte ∷ c.before) c.after first) ∙ own;
     }
 
@@ -95,15 +95,15 @@ ends a [] e = ap (λ x. x ∷ []) (same_byte 13 a (first_holds (eqb 13 a) true e
 ends a (c ∷ line) e =
     let many : length (a ∷ c ∷ line) - 1 ≡ suc (length line) = omega arith in
     let less : length line ≡ length (c ∷ line) - 1 = omega arith in
-    let rest : returns (c ∷ line) ≡ true = sym (ends_behind (a ∷ []) (c ∷ line) (omega arith)) ∙ e in
+    let rest : returns (c ∷ line) ≡ true = sym (ends_after (a ∷ []) (c ∷ line) (omega arith)) ∙ e in
     ap (λ k. take k (a ∷ c ∷ line) ++ 13 ∷ []) many ∙ ap (λ l. a ∷ l) (ap (λ k. take k (c ∷ line) ++ 13 ∷ []) less ∙ ends c line rest)
 
 ended : (line : List ℕ) → returns line ≡ true → take (length line - 1) line ++ 13 ∷ [] ≡ line
 ended [] e = absurd cc
 ended (a ∷ line) e = ends a line e
 
-in_by : (line : List ℕ) (b : Bool) → returns line ≡ b → behind_colon completed (if b then take (length line - 1) line else line) ≡ (if b then take (length line - 1) line else line)
-    → (if b then behind_colon completed (take (length line - 1) line) ++ 13 ∷ [] else behind_colon completed line) ≡ line
+in_by : (line : List ℕ) (b : Bool) → returns line ≡ b → after_colon completed (if b then take (length line - 1) line else line) ≡ (if b then take (length line - 1) line else line)
+    → (if b then after_colon completed (take (length line - 1) line) ++ 13 ∷ [] else after_colon completed line) ≡ line
 in_by line true e stays = ap (λ l. l ++ 13 ∷ []) stays ∙ ended line e
 in_by line false e stays = stays
 

@@ -18,8 +18,8 @@ use Rattle.gcg_write.proofs.Inversions.{stepped, given, ok_same}
 use Rattle.gcg_numbers.proofs.Events.{event_other}
 use Rattle.gcg_drafts.specs.declared.missing.Missing.{Missing}
 use Rattle.gcg_drafts.specs.Lacks.{lacks_in}
-use Rattle.gcg_drafts.specs.Laws.{many_of, IsTold, HasNoScore, IsSameBut, OneReading}
-use Rattle.gcg_drafts.proofs.Told.{lacks_are_told}
+use Rattle.gcg_drafts.specs.Laws.{count_of, IsReported, HasNoScore, IsSameBut, OneReading}
+use Rattle.gcg_drafts.proofs.Reported.{lacks_are_reported}
 
 -- ---- the last two fields of an event are its numbers
 
@@ -118,16 +118,16 @@ same_by heading fields (s ∷ t ∷ w ∷ more) other e f few many read rest = a
 
 -- ---- as many
 
-many_by : (fields more other : List (List ℕ)) (e f : Event) → IsTold fields more ⊎ HasNoScore fields more e → IsTold fields other ⊎ HasNoScore fields other f
+number_by : (fields more other : List (List ℕ)) (e f : Event) → IsReported fields more ⊎ HasNoScore fields more e → IsReported fields other ⊎ HasNoScore fields other f
     → length more ≡ length other
-many_by fields more other e f (inl a) (inl b) =
-    let same : a.lacks ≡ b.lacks = ok_same a.lacks b.lacks (sym a.told ∙ b.told) in
-    sym a.many ∙ ap many_of same ∙ b.many
-many_by fields more other e f (inl a) (inr b) = let both = sym a.told ∙ b.told in absurd cc
-many_by fields more other e f (inr a) (inl b) = let both = sym a.told ∙ b.told in absurd cc
-many_by fields more other e f (inr a) (inr b) = sym a.many ∙ b.many
+number_by fields more other e f (inl a) (inl b) =
+    let same : a.lacks ≡ b.lacks = ok_same a.lacks b.lacks (sym a.reported ∙ b.reported) in
+    sym a.many ∙ ap count_of same ∙ b.many
+number_by fields more other e f (inl a) (inr b) = let both = sym a.reported ∙ b.reported in absurd cc
+number_by fields more other e f (inr a) (inl b) = let both = sym a.reported ∙ b.reported in absurd cc
+number_by fields more other e f (inr a) (inr b) = sym a.many ∙ b.many
 
 pub one_reading : OneReading
 one_reading heading fields more other e f few less read rest =
-    let many = many_by fields more other e f (lacks_are_told heading fields more e few read) (lacks_are_told heading fields other f less rest) in
+    let many = number_by fields more other e f (lacks_are_reported heading fields more e few read) (lacks_are_reported heading fields other f less rest) in
     (many, same_by heading fields more other e f few many read rest)

@@ -29,17 +29,17 @@ lacks_of needs (score ∷ total ∷ []) = Ok missing.Nothing
 lacks_of needs (score ∷ total ∷ more ∷ rest) = Err amiss.TooMany
 
 -- what follows a position: a word, and then numbers
-abbrev pub lacks_behind_place : List (List ℕ) → Result Missing Amiss
-lacks_behind_place [] = Err amiss.NoWord
-lacks_behind_place (word ∷ numbers) = lacks_of false numbers
+abbrev pub lacks_after_place : List (List ℕ) → Result Missing Amiss
+lacks_after_place [] = Err amiss.NoWord
+lacks_after_place (word ∷ numbers) = lacks_of false numbers
 
 -- what follows a rack: a position and a word, or a code; and then numbers
-abbrev pub lacks_behind_rack : List (List ℕ) → Result Missing Amiss
-lacks_behind_rack [] = Err amiss.NoEvent
-lacks_behind_rack (field ∷ rest) = if is_place field then lacks_behind_place rest else lacks_of (needs_score field) rest
+abbrev pub lacks_after_rack : List (List ℕ) → Result Missing Amiss
+lacks_after_rack [] = Err amiss.NoEvent
+lacks_after_rack (field ∷ rest) = if is_place field then lacks_after_place rest else lacks_of (needs_score field) rest
 
 -- What a line lacks. A field that begins as a code does is one; one with a digit is a position; and any other is a rack.
 unfoldable pub lacks_in : List (List ℕ) → Result Missing Amiss
 lacks_in [] = Err amiss.NoEvent
 lacks_in (field ∷ rest) =
-    if is_code field then lacks_of (needs_score field) rest else (if has_digit field then lacks_behind_place rest else lacks_behind_rack rest)
+    if is_code field then lacks_of (needs_score field) rest else (if has_digit field then lacks_after_place rest else lacks_after_rack rest)

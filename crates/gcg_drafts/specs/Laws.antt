@@ -27,33 +27,33 @@ OwnDraft = (text : List ℕ) (r : Record) → record_of text ≡ Ok r → MeansI
 -- ---- no line of a draft has two readings
 
 -- how many numbers are missing
-abbrev pub many_of : Missing → ℕ
-many_of missing.Nothing = 0
-many_of missing.Total = 1
-many_of missing.Both = 2
+abbrev pub count_of : Missing → ℕ
+count_of missing.Nothing = 0
+count_of missing.Total = 1
+count_of missing.Both = 2
 
 -- an event to which the rules allow several scores
 abbrev pub IsOfChoice : EventKind → Type 0
 IsOfChoice k = (k ≡ kind.Challenge) ⊎ (k ≡ kind.Time)
 
 -- what is said of the fields of a line if they are those of an event with some of its last fields left out
-pub record IsTold (fields more : List (List ℕ)) : Type 0 where
+pub record IsReported (fields more : List (List ℕ)) : Type 0 where
   pub lacks : Missing
-  pub told : lacks_in fields ≡ Ok lacks
-  pub many : many_of lacks ≡ length more
+  pub reported : lacks_in fields ≡ Ok lacks
+  pub many : count_of lacks ≡ length more
 
 -- what is said of them if the score and the total of a challenge or of a penalty are left out
 pub record HasNoScore (fields more : List (List ℕ)) (e : Event) : Type 0 where
-  pub told : lacks_in fields ≡ Err amiss.NoScore
+  pub reported : lacks_in fields ≡ Err amiss.NoScore
   pub many : 2 ≡ length more
   pub kind : IsOfChoice e.kind
 
 -- If the fields of a line with none, one or two more at their end are those of an event, then what the line lacks is told: that many numbers, or
 -- the score of a challenge or of a penalty.
-abbrev pub LacksAreTold : Type 0
-LacksAreTold =
+abbrev pub LacksAreReported : Type 0
+LacksAreReported =
     (heading : Heading) (fields more : List (List ℕ)) (e : Event) → length more ≤ 2 → event_of heading (fields ++ more) ≡ Ok e
-    → IsTold fields more ⊎ HasNoScore fields more e
+    → IsReported fields more ⊎ HasNoScore fields more e
 
 -- both are the same event, but for their numbers
 abbrev pub IsSameBut : Event → Event → Type 0

@@ -4,7 +4,7 @@ use Rattle.std.specs.List.{slice_split, after_first, flat_map, join_with_byte}
 use Rattle.text_lines.specs.Lines.{without_mark, is_feed, lines_of}
 use Rattle.text_lines.specs.Fields.{fields_of}
 use Rattle.gcg_read.specs.Cutting.{is_colon}
-use Rattle.gcg_numbers.specs.Numbers.{Last, last_field, behind_colon, in_line, is_event_line, mark_of}
+use Rattle.gcg_numbers.specs.Numbers.{Last, last_field, after_colon, in_line, is_event_line, mark_of}
 use Rattle.gcg_drafts.specs.declared.missing.Missing.{Missing}
 use Rattle.gcg_drafts.specs.declared.missing.Missing.TheVariants as missing
 use Rattle.gcg_drafts.specs.declared.amiss.Amiss.{Amiss}
@@ -13,13 +13,13 @@ use Rattle.gcg_drafts.specs.Lacks.{lacks_in}
 -- ---- numbers in the place of those that are missing
 
 -- a space (32) before a number that is put at the end of a text, if there is no blank
-abbrev pub gap_behind : Option Last → List ℕ
-gap_behind None = []
-gap_behind (Some last) = if length last.back == 0 then 32 ∷ [] else []
+abbrev pub gap_after : Option Last → List ℕ
+gap_after None = []
+gap_after (Some last) = if length last.back == 0 then 32 ∷ [] else []
 
 -- a text with numbers at its end
 abbrev pub with_end : (text numbers : List ℕ) → List ℕ
-with_end text numbers = text ++ (gap_behind (last_field text) ++ numbers)
+with_end text numbers = text ++ (gap_after (last_field text) ++ numbers)
 
 -- the text after a colon with a score +0 and a total 0 where they are missing
 abbrev pub completed_by : Result Missing Amiss → (text : List ℕ) → List ℕ
@@ -33,7 +33,7 @@ completed text = completed_by (lacks_in (fields_of text)) text
 
 -- a line with them, if it is that of an event; a CR at its end stays there
 unfoldable pub completed_line : List ℕ → List ℕ
-completed_line line = if is_event_line line then in_line (behind_colon completed) line else line
+completed_line line = if is_event_line line then in_line (after_colon completed) line else line
 
 -- a text with them
 unfoldable pub completed_text : List ℕ → List ℕ

@@ -2,8 +2,8 @@
 ghost use Rattle.std.specs.Prelude.{◌≡◌, ◌++◌, OnOk};
 ghost use Rattle.std.specs.List.{position};
 ghost use Rattle.gcg_numbers.specs.Lines.{is_colon};
-ghost use Rattle.gcg_numbers.specs.Numbers.{last_field, behind_colon, in_line};
-ghost use Rattle.gcg_drafts.specs.Texts.{gap_behind, with_end, completed, completed_line, completed_text};
+ghost use Rattle.gcg_numbers.specs.Numbers.{last_field, after_colon, in_line};
+ghost use Rattle.gcg_drafts.specs.Texts.{gap_after, with_end, completed, completed_line, completed_text};
 
 use crate::lacks::lacks_in;
 use crate::missing::Missing;
@@ -14,7 +14,7 @@ use text_lines::without_mark;
 
 /// Appends a space, if there is no blank at the end of a text that has a field.
 fn push_gap(out: &mut Vec<u8>, text: &[u8]) -> Result<(), AllocError>
-    ensures { OnOk result (out.new.items ≡ out.old.items ++ gap_behind (last_field text.now)) }
+    ensures { OnOk result (out.new.items ≡ out.old.items ++ gap_after (last_field text.now)) }
 {
     let Some(last) = last_field(text) else {
         return Ok(());
@@ -56,8 +56,8 @@ fn find_colon(line: &[u8]) -> Option<usize>
 
 /// Appends the text of an event line, of which what follows the first colon is completed.
 #[tactic(auto, using(gcg_numbers::proofs::Colons::none, gcg_numbers::proofs::Colons::there))]
-fn push_behind_colon(out: &mut Vec<u8>, line: &[u8]) -> Result<(), AllocError>
-    ensures { OnOk result (out.new.items ≡ out.old.items ++ behind_colon completed line.now) }
+fn push_from_colon(out: &mut Vec<u8>, line: &[u8]) -> Result<(), AllocError>
+    ensures { OnOk result (out.new.items ≡ out.old.items ++ after_colon completed line.now) }
 {
     let Some(colon) = find_colon(line) else {
         return out.extend_from_slice(line);
@@ -68,21 +68,21 @@ fn push_behind_colon(out: &mut Vec<u8>, line: &[u8]) -> Result<(), AllocError>
 
 /// Appends an event line; a CR at its end stays there.
 fn push_event_line(out: &mut Vec<u8>, line: &[u8]) -> Result<(), AllocError>
-    ensures { OnOk result (out.new.items ≡ out.old.items ++ in_line (behind_colon completed) line.now) }
+    ensures { OnOk result (out.new.items ≡ out.old.items ++ in_line (after_colon completed) line.now) }
 {
     match line {
         [front @ .., b'\r'] => {
-            push_behind_colon(out, front)?;
+            push_from_colon(out, front)?;
             out.push(b'\r')?;
             Ok(())
         }
-        _ => push_behind_colon(out, line),
+        _ => push_from_colon(out, line),
     }
 }
 
 /// Appends a line of a draft, completed if it is that of an event.
 #[tactic(auto, unfolding(crate::specs::Texts::completed_line))]
-fn push_line(out: &mut Vec<u8>, line: &[u8]) -> Result<(), AllocError>
+fn push_completed_line(out: &mut Vec<u8>, line: &[u8]) -> Result<(), AllocError>
     ensures { OnOk result (out.new.items ≡ out.old.items ++ completed_line line.now) }
 {
     if is_event_line(line) {
@@ -105,9 +105,9 @@ pub fn push_completed(out: &mut Vec<u8>, text: &[u8]) -> Result<(), AllocError>
     push_mark(out, text)?;
     let mut cut = cut_raw_line(unmarked);
     while let Some(after) = cut.after {
-        push_line(out, cut.line)?;
+        push_completed_line(out, cut.line)?;
         out.push(b'\n')?;
         cut = cut_raw_line(after);
     }
-    push_line(out, cut.line)
+    push_completed_line(out, cut.line)
 }

@@ -2,7 +2,7 @@
 ghost use Rattle.std.specs.Prelude.{◌≡◌};
 ghost use Rattle.text_lines.specs.Fields.{fields_of};
 ghost use Rattle.gcg_read.specs.EventLines.{has_digit};
-ghost use Rattle.gcg_drafts.specs.Lacks.{is_code, is_place, needs_score, lacks_of, lacks_behind_place, lacks_behind_rack, lacks_in};
+ghost use Rattle.gcg_drafts.specs.Lacks.{is_code, is_place, needs_score, lacks_of, lacks_after_place, lacks_after_rack, lacks_in};
 
 use crate::amiss::Amiss;
 use crate::missing::Missing;
@@ -63,8 +63,8 @@ fn lacks_of(needs: bool, text: &[u8]) -> Result<Missing, Amiss>
 }
 
 /// What is missing of the text after a position.
-fn lacks_behind_place(text: &[u8]) -> Result<Missing, Amiss>
-    ensures { result ≡ lacks_behind_place (fields_of text.now) }
+fn lacks_after_place(text: &[u8]) -> Result<Missing, Amiss>
+    ensures { result ≡ lacks_after_place (fields_of text.now) }
 {
     match next_field(text) {
         None => Err(Amiss::NoWord),
@@ -73,14 +73,14 @@ fn lacks_behind_place(text: &[u8]) -> Result<Missing, Amiss>
 }
 
 /// What is missing of the text after a rack.
-fn lacks_behind_rack(text: &[u8]) -> Result<Missing, Amiss>
-    ensures { result ≡ lacks_behind_rack (fields_of text.now) }
+fn lacks_after_rack(text: &[u8]) -> Result<Missing, Amiss>
+    ensures { result ≡ lacks_after_rack (fields_of text.now) }
 {
     let Some(field) = next_field(text) else {
         return Err(Amiss::NoEvent);
     };
     if is_place(field.bytes) {
-        return lacks_behind_place(field.after);
+        return lacks_after_place(field.after);
     }
     lacks_of(needs_score(field.bytes), field.after)
 }
@@ -98,7 +98,7 @@ pub fn lacks_in(text: &[u8]) -> Result<Missing, Amiss>
         return lacks_of(needs_score(field.bytes), field.after);
     }
     if has_digit(field.bytes) {
-        return lacks_behind_place(field.after);
+        return lacks_after_place(field.after);
     }
-    lacks_behind_rack(field.after)
+    lacks_after_rack(field.after)
 }

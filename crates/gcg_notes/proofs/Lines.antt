@@ -32,13 +32,13 @@ Goes lines n r =
     (players : Players) (done other : List Event) (notes : List (List ℕ)) (m : ℕ) → record_from (so_far players done) n (map without_return lines) ≡ Ok r → AreMoved done other
     → Reads (map without_return (with_notes notes lines)) players other m r
 
-none_left : (lines : List (List ℕ)) → with_notes [] lines ≡ lines
-none_left [] = refl
-none_left (line ∷ lines) = refl
+none_remaining : (lines : List (List ℕ)) → with_notes [] lines ≡ lines
+none_remaining [] = refl
+none_remaining (line ∷ lines) = refl
 
 -- a line that is not an event gets no note
 stays : (line : List ℕ) (lines notes : List (List ℕ)) → is_event_line line ≡ false → with_notes notes (line ∷ lines) ≡ line ∷ with_notes notes lines
-stays line lines [] e = ap (λ l. line ∷ l) (sym (none_left lines))
+stays line lines [] e = ap (λ l. line ∷ l) (sym (none_remaining lines))
 stays line lines (note ∷ notes) e = rw e refl
 
 takes : (line : List ℕ) (lines : List (List ℕ)) (note : List ℕ) (notes : List (List ℕ)) → is_event_line line ≡ true → with_notes (note ∷ notes) (line ∷ lines) ≡ noted line note ++ with_notes notes lines
@@ -54,28 +54,28 @@ step_passed line lines n r next go players done other notes m e one rest moved =
     (one_more players other m (without_return line) (map without_return (with_notes notes lines)) (so_far next.players other) r p.1 more)
 
 -- what is shown after an event
-abbrev Behind : (lines : List (List ℕ)) → (next r : Record) → (other : List Event) → Type 0
-Behind lines next r other = (notes : List (List ℕ)) (m : ℕ) → Reads (map without_return (with_notes notes lines)) next.players other m r
+abbrev After : (lines : List (List ℕ)) → (next r : Record) → (other : List Event) → Type 0
+After lines next r other = (notes : List (List ℕ)) (m : ℕ) → Reads (map without_return (with_notes notes lines)) next.players other m r
 
 step_noted : (line : List ℕ) (lines : List (List ℕ)) (next r : Record) (players : Players) (other more : List Event) (m : ℕ) (notes : List (List ℕ)) (note : List ℕ) → 0 < length more
-    → with_line (so_far players other) m (without_return line) ≡ Ok (so_far next.players more) → Behind lines next r more
+    → with_line (so_far players other) m (without_return line) ≡ Ok (so_far next.players more) → After lines next r more
     → Reads (map without_return (noted line note ++ with_notes notes lines)) players other m r
-step_noted line lines next r players other more m notes [] some one behind =
-    one_more players other m (without_return line) (map without_return (with_notes notes lines)) (so_far next.players more) r one (behind notes (m + 1))
-step_noted line lines next r players other more m notes (byte ∷ note) some one behind =
+step_noted line lines next r players other more m notes [] some one following =
+    one_more players other m (without_return line) (map without_return (with_notes notes lines)) (so_far next.players more) r one (following notes (m + 1))
+step_noted line lines next r players other more m notes (byte ∷ note) some one following =
     let rest = map without_return (with_notes notes lines) in
     let skipped = note_skipped next.players more (m + 1) line (byte ∷ note) some in
     one_more players other m (without_return line) (without_return (note_line line (byte ∷ note)) ∷ rest) (so_far next.players more) r one
-    (one_more next.players more (m + 1) (without_return (note_line line (byte ∷ note))) rest (so_far next.players more) r skipped (behind notes (m + 1 + 1)))
+    (one_more next.players more (m + 1) (without_return (note_line line (byte ∷ note))) rest (so_far next.players more) r skipped (following notes (m + 1 + 1)))
 
 step_taken : (line : List ℕ) (lines : List (List ℕ)) (next r : Record) (players : Players) (other more : List Event) (m : ℕ) (notes : List (List ℕ)) → 0 < length more
-    → is_event_line line ≡ true → with_line (so_far players other) m (without_return line) ≡ Ok (so_far next.players more) → Behind lines next r more
+    → is_event_line line ≡ true → with_line (so_far players other) m (without_return line) ≡ Ok (so_far next.players more) → After lines next r more
     → Reads (map without_return (with_notes notes (line ∷ lines))) players other m r
-step_taken line lines next r players other more m [] some e one behind =
-    subst (λ l. Reads (without_return line ∷ map without_return l) players other m r) (none_left lines)
-    (one_more players other m (without_return line) (map without_return (with_notes [] lines)) (so_far next.players more) r one (behind [] (m + 1)))
-step_taken line lines next r players other more m (note ∷ notes) some e one behind =
-    subst (λ l. Reads (map without_return l) players other m r) (sym (takes line lines note notes e)) (step_noted line lines next r players other more m notes note some one behind)
+step_taken line lines next r players other more m [] some e one following =
+    subst (λ l. Reads (without_return line ∷ map without_return l) players other m r) (none_remaining lines)
+    (one_more players other m (without_return line) (map without_return (with_notes [] lines)) (so_far next.players more) r one (following [] (m + 1)))
+step_taken line lines next r players other more m (note ∷ notes) some e one following =
+    subst (λ l. Reads (map without_return l) players other m r) (sym (takes line lines note notes e)) (step_noted line lines next r players other more m notes note some one following)
 
 step_event : (line : List ℕ) (lines : List (List ℕ)) (n : ℕ) (r next : Record) → Goes lines (n + 1) r → (players : Players) (done other : List Event) (notes : List (List ℕ)) (m : ℕ)
     → is_event_line line ≡ true → with_line (so_far players done) n (without_return line) ≡ Ok next → record_from next (n + 1) (map without_return lines) ≡ Ok r

@@ -25,17 +25,17 @@ unmarked notes (line ∷ lines) h =
 own : (text : List ℕ) → begins text ≡ false → begins (join_with_byte 10 (slice_split is_feed text)) ≡ false
 own text e = ap begins (join_with_byte-slice_split 10 text) ∙ e
 
-behind_by : (notes : List (List ℕ)) (text : List ℕ) (b : Bool) → begins text ≡ b
+after_by : (notes : List (List ℕ)) (text : List ℕ) (b : Bool) → begins text ≡ b
     → without_mark ((if b then mark else []) ++ join_with_byte 10 (with_notes notes (slice_split is_feed (if b then drop 3 text else text))))
     ≡ join_with_byte 10 (with_notes notes (slice_split is_feed (if b then drop 3 text else text)))
-behind_by notes text true e = refl
-behind_by notes text false e =
+after_by notes text true e = refl
+after_by notes text false e =
     let out = join_with_byte 10 (with_notes notes (slice_split is_feed text)) in
     ap (λ (x : Bool). if x then drop 3 out else out) (unmarked notes (slice_split is_feed text) (own text e))
 
-behind_mark : (notes text : List ℕ) → without_mark (text_with_notes notes text) ≡ join_with_byte 10 (with_notes (raw_lines notes) (raw_lines (without_mark text)))
+after_mark : (notes text : List ℕ) → without_mark (text_with_notes notes text) ≡ join_with_byte 10 (with_notes (raw_lines notes) (raw_lines (without_mark text)))
 unfolding text_with_notes
-behind_mark notes text = behind_by (raw_lines notes) text (begins text) refl
+after_mark notes text = after_by (raw_lines notes) text (begins text) refl
 
 mark_by : (notes : List (List ℕ)) (text : List ℕ) (b : Bool) → begins text ≡ b
     → mark_of ((if b then mark else []) ++ join_with_byte 10 (with_notes notes (slice_split is_feed (if b then drop 3 text else text)))) ≡ (if b then mark else [])
@@ -58,7 +58,7 @@ parts : (notes text : List ℕ) → raw_lines (without_mark (text_with_notes not
 parts notes text =
     let lines = raw_lines (without_mark text) in
     let f = some_line (raw_lines notes) lines (omega (arith, length-slice_split is_feed (without_mark text))) in
-    ap raw_lines (behind_mark notes text)
+    ap raw_lines (after_mark notes text)
     ∙ again (with_notes (raw_lines notes) lines) f (notes_no_feed (raw_lines notes) lines (split_no_feed notes) (split_no_feed (without_mark text)))
 
 pub only_noted : IsOnlyNoted

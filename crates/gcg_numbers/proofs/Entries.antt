@@ -14,7 +14,7 @@ use Rattle.gcg_write.proofs.Digits.{points_total, points_score}
 use Rattle.gcg_write.proofs.Inversions.{stepped, given, passed, ok_same}
 use Rattle.gcg_write.specs.Fields.{score_text}
 use Rattle.std.specs.Fmt.{signed_decimal}
-use Rattle.gcg_numbers.specs.Numbers.{Last, last_field, behind_colon, with_numbers}
+use Rattle.gcg_numbers.specs.Numbers.{Last, last_field, after_colon, with_numbers}
 use Rattle.gcg_numbers.specs.Laws.{IsOther}
 use Rattle.gcg_numbers.proofs.Fields.{no_fields}
 use Rattle.gcg_numbers.proofs.Lasts.{IsCut, IsLastOf, last_is, fields_cut}
@@ -103,10 +103,10 @@ unfolding entry_of
 made so_far line text head seat e few headed seated event = rw (few, headed, seated, event) refl
 
 pub entry_other : (so_far other : Record) (line : ℕ) (text : List ℕ) (ne : NamedEvent) (new : Event) → other.players ≡ so_far.players → length other.events ≡ length so_far.events
-    → IsOther ne.event new → entry_of so_far line text ≡ Ok ne → entry_of other line (behind_colon (with_numbers new) text) ≡ Ok (record { nick = ne.nick; event = new })
+    → IsOther ne.event new → entry_of so_far line text ≡ Ok ne → entry_of other line (after_colon (with_numbers new) text) ≡ Ok (record { nick = ne.nick; event = new })
 entry_other so_far other line text ne new players many is read =
     let h = entered so_far line text ne read in
-    made other line (behind_colon (with_numbers new) text) (record h.head { after = with_numbers new h.head.after }) h.seat new
+    made other line (after_colon (with_numbers new) text) (record h.head { after = with_numbers new h.head.after }) h.seat new
     (ap (nat_le most_events) many ∙ h.few) (head_other (with_numbers new) text h.head h.headed) (ap (λ p. seat_for p h.head.nick) players ∙ h.seated)
     (event_with (record { line = line; player = h.seat }) h.head.after ne.event new is h.event)
     ∙ ap (λ n. Ok (let e : NamedEvent = record { nick = n; event = new } in e)) h.nick

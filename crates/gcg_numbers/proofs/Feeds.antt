@@ -12,7 +12,7 @@ use Rattle.gcg_write.proofs.Each.{Each, each_append, each_weaken, each_take}
 use Rattle.gcg_write.proofs.Entries.{IsInk, ink_score, ink_total}
 use Rattle.gcg_write.proofs.Splitting.{Fails, split_one, split_next}
 use Rattle.std.specs.List.{onto_first}
-use Rattle.gcg_numbers.specs.Numbers.{Last, last_field, with_score, with_total, with_numbers, behind_colon, line_with, is_event_line, lines_with}
+use Rattle.gcg_numbers.specs.Numbers.{Last, last_field, with_score, with_total, with_numbers, after_colon, line_with, is_event_line, lines_with}
 use Rattle.gcg_numbers.specs.Laws.{AreOther}
 use Rattle.gcg_numbers.proofs.Lasts.{IsLastOf, last_is}
 use Rattle.gcg_numbers.proofs.Scored.{number_has}
@@ -48,30 +48,30 @@ total_by text event None score total h is = h
 total_by text event (Some t) score total h is =
     let all : HasNoFeed (t.front ++ (t.field ++ t.back)) = subst HasNoFeed is.whole h in
     let front : HasNoFeed t.front = each_front (Fails is_feed) t.front (t.field ++ t.back) all in
-    let behind : HasNoFeed (t.field ++ t.back) = each_back (Fails is_feed) t.front (t.field ++ t.back) all in
-    let field : HasNoFeed t.field = each_front (Fails is_feed) t.field t.back behind in
+    let following : HasNoFeed (t.field ++ t.back) = each_back (Fails is_feed) t.front (t.field ++ t.back) all in
+    let field : HasNoFeed t.field = each_front (Fails is_feed) t.field t.back following in
     each_append (Fails is_feed) (with_score t.front event.score (last_field t.front)) _
     (score_by t.front event.score (last_field t.front) score front (last_is t.front))
     (each_append (Fails is_feed) _ t.back (number_has HasNoFeed t.field event.total (signed_decimal event.total) field (ink_no_feed (signed_decimal event.total) (ink_total event.total total)))
-    (each_back (Fails is_feed) t.field t.back behind))
+    (each_back (Fails is_feed) t.field t.back following))
 
 numbers_no_feed : (event : Event) (text : List ℕ) → IsPoints event.score → IsPoints event.total → HasNoFeed text → HasNoFeed (with_numbers event text)
 unfolding with_numbers
 numbers_no_feed event text score total h = total_by text event (last_field text) score total h (last_is text)
 
-colon_by : (change : List ℕ → List ℕ) (byte : ℕ) (text : List ℕ) (b : Bool) → is_feed byte ≡ false → HasNoFeed (change text) → HasNoFeed (behind_colon change text)
-    → HasNoFeed (if b then byte ∷ change text else byte ∷ behind_colon change text)
+colon_by : (change : List ℕ → List ℕ) (byte : ℕ) (text : List ℕ) (b : Bool) → is_feed byte ≡ false → HasNoFeed (change text) → HasNoFeed (after_colon change text)
+    → HasNoFeed (if b then byte ∷ change text else byte ∷ after_colon change text)
 colon_by change byte text true e h k = (e, h)
 colon_by change byte text false e h k = (e, k)
 
-colon_no_feed : (change : List ℕ → List ℕ) → ((text : List ℕ) → HasNoFeed text → HasNoFeed (change text)) → (text : List ℕ) → HasNoFeed text → HasNoFeed (behind_colon change text)
+colon_no_feed : (change : List ℕ → List ℕ) → ((text : List ℕ) → HasNoFeed text → HasNoFeed (change text)) → (text : List ℕ) → HasNoFeed text → HasNoFeed (after_colon change text)
 colon_no_feed change each [] h = tt
 colon_no_feed change each (byte ∷ text) h = colon_by change byte text (byte == 58) h.0 (each text h.1) (colon_no_feed change each text h.1)
 
 line_by : (event : Event) (line : List ℕ) (b : Bool) → IsPoints event.score → IsPoints event.total → HasNoFeed line
-    → HasNoFeed (if b then behind_colon (with_numbers event) (take (length line - 1) line) ++ 13 ∷ [] else behind_colon (with_numbers event) line)
+    → HasNoFeed (if b then after_colon (with_numbers event) (take (length line - 1) line) ++ 13 ∷ [] else after_colon (with_numbers event) line)
 line_by event line true score total h =
-    each_append (Fails is_feed) (behind_colon (with_numbers event) (take (length line - 1) line)) (13 ∷ [])
+    each_append (Fails is_feed) (after_colon (with_numbers event) (take (length line - 1) line)) (13 ∷ [])
     (colon_no_feed (with_numbers event) (λ text k. numbers_no_feed event text score total k) (take (length line - 1) line) (each_take (Fails is_feed) (length line - 1) line h)) (refl, tt)
 line_by event line false score total h = colon_no_feed (with_numbers event) (λ text k. numbers_no_feed event text score total k) line h
 

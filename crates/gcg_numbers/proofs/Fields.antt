@@ -84,9 +84,9 @@ fields_by xs ys front last e h =
     rw (e, one, two) refl
 
 -- what ends in a blank has no part in the field after it
-pub fields_behind : (xs ys : List ℕ) → EndsBlank xs → fields_of (xs ++ ys) ≡ fields_of xs ++ fields_of ys
-fields_behind [] ys h = ap (λ l. l ++ fields_of ys) (sym (no_fields [] tt))
-fields_behind (x ∷ xs) ys h = let e = ended x xs h in fields_by (x ∷ xs) ys e.front e.last e.whole e.blank
+pub fields_after : (xs ys : List ℕ) → EndsBlank xs → fields_of (xs ++ ys) ≡ fields_of xs ++ fields_of ys
+fields_after [] ys h = ap (λ l. l ++ fields_of ys) (sym (no_fields [] tt))
+fields_after (x ∷ xs) ys h = let e = ended x xs h in fields_by (x ∷ xs) ys e.front e.last e.whole e.blank
 
 -- a field and blanks
 pub field_back : (field back : List ℕ) → 0 < length field → Each (Fails is_blank) field → Each IsBlank back → fields_of (field ++ back) ≡ field ∷ []

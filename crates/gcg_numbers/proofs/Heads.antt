@@ -7,7 +7,7 @@ use Rattle.gcg_read.specs.Cutting.{is_colon, Named, named_by, head_of, fields_of
 use Rattle.gcg_write.proofs.Each.{Each}
 use Rattle.gcg_write.proofs.Parts.{take_front, drop_more}
 use Rattle.gcg_write.proofs.Splitting.{Fails, first_place, no_place}
-use Rattle.gcg_numbers.specs.Numbers.{behind_colon}
+use Rattle.gcg_numbers.specs.Numbers.{after_colon}
 
 -- a text that is cut at its first colon
 pub record Colon (text : List ℕ) : Type 0 where
@@ -46,7 +46,7 @@ unfolding head_of
 head_cut before after first =
     rw (position_first before after first, first_place is_colon before 58 after first refl, take_front before (58 ∷ after), drop_more before 58 after) refl
 
-pub changed_cut : (change : List ℕ → List ℕ) (before after : List ℕ) → Each (Fails is_colon) before → behind_colon change (before ++ 58 ∷ after) ≡ before ++ 58 ∷ change after
+pub changed_cut : (change : List ℕ → List ℕ) (before after : List ℕ) → Each (Fails is_colon) before → after_colon change (before ++ 58 ∷ after) ≡ before ++ 58 ∷ change after
 changed_cut change [] after first = refl
 changed_cut change (byte ∷ before) after first = rw (first.0, changed_cut change before after first.1) refl
 
@@ -64,15 +64,15 @@ no_head text head none e =
     absurd cc
 
 head_by : (change : List ℕ → List ℕ) (text : List ℕ) (head : Named) → Each (Fails is_colon) text ⊎ Colon text → head_of text ≡ Some head
-    → head_of (behind_colon change text) ≡ Some (record head { after = change head.after })
+    → head_of (after_colon change text) ≡ Some (record head { after = change head.after })
 head_by change text head (inl none) e = absurd (no_head text head none e)
 head_by change text head (inr c) e =
     let there : named_by (fields_of c.before) c.after ≡ Some head = sym (head_cut c.before c.after c.first) ∙ ap head_of (sym c.whole) ∙ e in
     let two = named_other (fields_of c.before) c.after (change c.after) head there in
-    let changed : head_of (behind_colon change text) ≡ named_by (fields_of c.before) (change c.after) =
-    ap (λ l. head_of (behind_colon change l)) c.whole ∙ ap head_of (changed_cut change c.before c.after c.first) ∙ head_cut c.before (change c.after) c.first in
+    let changed : head_of (after_colon change text) ≡ named_by (fields_of c.before) (change c.after) =
+    ap (λ l. head_of (after_colon change l)) c.whole ∙ ap head_of (changed_cut change c.before c.after c.first) ∙ head_cut c.before (change c.after) c.first in
     changed ∙ two.1 ∙ ap (λ l. Some (record head { after = change l })) (sym two.0)
 
 -- the nickname stays, and what follows its colon is changed
-pub head_other : (change : List ℕ → List ℕ) (text : List ℕ) (head : Named) → head_of text ≡ Some head → head_of (behind_colon change text) ≡ Some (record head { after = change head.after })
+pub head_other : (change : List ℕ → List ℕ) (text : List ℕ) (head : Named) → head_of text ≡ Some head → head_of (after_colon change text) ≡ Some (record head { after = change head.after })
 head_other change text head e = head_by change text head (cut text) e

@@ -4,7 +4,7 @@ use Rattle.text_lines.specs.Fields.{is_blank, fields_of}
 use Rattle.gcg_write.proofs.Each.{Each}
 use Rattle.gcg_write.proofs.Splitting.{Fails}
 use Rattle.gcg_numbers.specs.Numbers.{Last, longer, last_from, last_field}
-use Rattle.gcg_numbers.proofs.Fields.{IsBlank, EndsBlank, fields_behind, field_back}
+use Rattle.gcg_numbers.proofs.Fields.{IsBlank, EndsBlank, fields_after, field_back}
 
 pub record IsCut (text : List ℕ) (l : Last) : Type 0 where
   pub whole : text ≡ l.front ++ (l.field ++ l.back)
@@ -37,7 +37,7 @@ last_is (byte ∷ text) = from_is byte text (last_field text) (is_blank byte) re
 -- a text with another field in the place of the last one
 pub fields_with : (front field back : List ℕ) → EndsBlank front → 0 < length field → Each (Fails is_blank) field → Each IsBlank back
     → fields_of (front ++ (field ++ back)) ≡ fields_of front ++ field ∷ []
-fields_with front field back h some ink k = fields_behind front (field ++ back) h ∙ ap (λ l. fields_of front ++ l) (field_back field back some ink k)
+fields_with front field back h some ink k = fields_after front (field ++ back) h ∙ ap (λ l. fields_of front ++ l) (field_back field back some ink k)
 
 pub fields_cut : (text : List ℕ) (l : Last) → IsCut text l → fields_of text ≡ fields_of l.front ++ l.field ∷ []
 fields_cut text l h = ap fields_of h.whole ∙ fields_with l.front l.field l.back h.front h.some h.ink h.back

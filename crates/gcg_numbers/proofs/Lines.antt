@@ -9,7 +9,7 @@ use Rattle.gcg_read.specs.declared.records.Record.{Record}
 use Rattle.gcg_read.specs.Records.{with_line, record_from}
 use Rattle.gcg_write.proofs.Inversions.{stepped, ok_same}
 use Rattle.gcg_write.proofs.LineCuts.{returns}
-use Rattle.gcg_numbers.specs.Numbers.{behind_colon, with_numbers, line_with, is_event_line, lines_with}
+use Rattle.gcg_numbers.specs.Numbers.{after_colon, with_numbers, line_with, is_event_line, lines_with}
 use Rattle.gcg_numbers.specs.Laws.{IsOther, AreOther}
 use Rattle.gcg_numbers.proofs.Returns.{IsNumbered, return_other}
 use Rattle.gcg_numbers.proofs.Walks.{so_far, Added, added, add_other, passed, eventful, as_event, no_colon, numbered}
@@ -79,13 +79,13 @@ begins (a ∷ c ∷ rest) = more_by a c rest (returns (a ∷ c ∷ rest))
 
 -- ---- the lines
 
-nothing_left : (news : List Event) → AreOther [] news → news ≡ []
-nothing_left [] h = refl
-nothing_left (new ∷ news) h = absurd h
+nothing_remaining : (news : List Event) → AreOther [] news → news ≡ []
+nothing_remaining [] h = refl
+nothing_remaining (new ∷ news) h = absurd h
 
-lines_left : (lines : List (List ℕ)) → lines_with [] lines ≡ lines
-lines_left [] = refl
-lines_left (line ∷ lines) = refl
+lines_remaining : (lines : List (List ℕ)) → lines_with [] lines ≡ lines
+lines_remaining [] = refl
+lines_remaining (line ∷ lines) = refl
 
 -- what is shown about the lines after one
 abbrev Goes : (lines : List (List ℕ)) → (n : ℕ) → Record → Type 0
@@ -95,7 +95,7 @@ Goes lines n r =
 
 -- a line that is not an event stays
 stays : (line : List ℕ) (lines : List (List ℕ)) (news : List Event) → is_event_line line ≡ false → lines_with news (line ∷ lines) ≡ line ∷ lines_with news lines
-stays line lines [] e = ap (λ l. line ∷ l) (sym (lines_left lines))
+stays line lines [] e = ap (λ l. line ∷ l) (sym (lines_remaining lines))
 stays line lines (new ∷ news) e = rw e refl
 
 pub go_on : (players : Players) (n : ℕ) (line : List ℕ) (lines : List (List ℕ)) (other : List Event) (next r : Record) → with_line (so_far players other) n line ≡ Ok next
@@ -118,11 +118,11 @@ line_other : (players : Players) (done other : List Event) (n : ℕ) (line : Lis
     → (byte == 62) ≡ true → (a : Added players done n text next) → length other ≡ length done → IsOther a.entry.event new
     → with_line (so_far players other) n (without_return (line_with new line)) ≡ Ok (so_far next.players (other ++ new ∷ []))
 line_other players done other n line byte text next new whole event a many is =
-    let changed : without_return (line_with new line) ≡ behind_colon (with_numbers new) (without_return line) =
+    let changed : without_return (line_with new line) ≡ after_colon (with_numbers new) (without_return line) =
     return_other new line (subst IsNumbered (sym whole) (numbered players done n byte text next event a)) is.total in
-    let cut : behind_colon (with_numbers new) (byte ∷ text) ≡ byte ∷ behind_colon (with_numbers new) text = rw (no_colon byte event) refl in
-    ap (with_line (so_far players other) n) (changed ∙ ap (behind_colon (with_numbers new)) whole ∙ cut)
-    ∙ as_event players other n byte (behind_colon (with_numbers new) text) event ∙ add_other players done other n text next new a many is
+    let cut : after_colon (with_numbers new) (byte ∷ text) ≡ byte ∷ after_colon (with_numbers new) text = rw (no_colon byte event) refl in
+    ap (with_line (so_far players other) n) (changed ∙ ap (after_colon (with_numbers new)) whole ∙ cut)
+    ∙ as_event players other n byte (after_colon (with_numbers new) text) event ∙ add_other players done other n text next new a many is
 
 takes : (line : List ℕ) (lines : List (List ℕ)) (new : Event) (news : List Event) → is_event_line line ≡ true → lines_with (new ∷ news) (line ∷ lines) ≡ line_with new line ∷ lines_with news lines
 takes line lines new news e = rw e refl
@@ -167,8 +167,8 @@ unfolding record_from
 at_end n players done other more news r h whole is =
     let same = ok_same (so_far players done) r h in
     let none : more ≡ [] = append_cancel_left done more [] (sym whole ∙ ap (λ (x : Record). x.events) (sym same) ∙ sym (append-nil done)) in
-    let left : news ≡ [] = nothing_left news (subst (λ l. AreOther l news) none is) in
-    ap (λ p. Ok (so_far p other)) (ap (λ (x : Record). x.players) same) ∙ ap (λ l. Ok (so_far r.players l)) (sym (append-nil other)) ∙ ap (λ l. Ok (so_far r.players (other ++ l))) (sym left)
+    let remaining : news ≡ [] = nothing_remaining news (subst (λ l. AreOther l news) none is) in
+    ap (λ p. Ok (so_far p other)) (ap (λ (x : Record). x.players) same) ∙ ap (λ l. Ok (so_far r.players l)) (sym (append-nil other)) ∙ ap (λ l. Ok (so_far r.players (other ++ l))) (sym remaining)
 
 first_step : (line : List ℕ) (lines : List (List ℕ)) (n : ℕ) (r : Record) → Goes lines (n + 1) r → Goes (line ∷ lines) n r
 unfolding record_from

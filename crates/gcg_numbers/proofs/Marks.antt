@@ -6,7 +6,7 @@ use Rattle.std.proofs.lemmas.List.Splits.{join_with_byte-slice_split}
 use Rattle.text_lines.specs.Lines.{without_mark, is_feed}
 use Rattle.gcg_read.specs.declared.events.Event.{Event}
 use Rattle.gcg_write.proofs.LineCuts.{returns}
-use Rattle.gcg_numbers.specs.Numbers.{with_numbers, behind_colon, line_with, is_event_line, lines_with, mark_of}
+use Rattle.gcg_numbers.specs.Numbers.{with_numbers, after_colon, line_with, is_event_line, lines_with, mark_of}
 use Rattle.gcg_numbers.proofs.Walks.{no_colon}
 
 abbrev pub mark : List ℕ
@@ -29,20 +29,20 @@ record Same (a : ℕ) (line : List ℕ) : Type 0 where
   whole : line ≡ a ∷ rest
 
 only_by : (change : List ℕ → List ℕ) (a : ℕ) (b : Bool) → (a == 62) ≡ true → returns (a ∷ []) ≡ b
-    → Same a (if b then behind_colon change (take (length (a ∷ []) - 1) (a ∷ [])) ++ 13 ∷ [] else behind_colon change (a ∷ []))
+    → Same a (if b then after_colon change (take (length (a ∷ []) - 1) (a ∷ [])) ++ 13 ∷ [] else after_colon change (a ∷ []))
 only_by change a true e r =
     let ends : returns (62 ∷ []) ≡ true = subst (λ n. returns (n ∷ []) ≡ true) (same_byte a 62 e) r in
     absurd cc
 only_by change a false e r = record { rest = []; whole = rw (no_colon a e) refl }
 
 more_by : (change : List ℕ → List ℕ) (a c : ℕ) (text : List ℕ) (b : Bool) → (a == 62) ≡ true
-    → Same a (if b then behind_colon change (take (length (a ∷ c ∷ text) - 1) (a ∷ c ∷ text)) ++ 13 ∷ [] else behind_colon change (a ∷ c ∷ text))
+    → Same a (if b then after_colon change (take (length (a ∷ c ∷ text) - 1) (a ∷ c ∷ text)) ++ 13 ∷ [] else after_colon change (a ∷ c ∷ text))
 more_by change a c text true e =
     let many : length (a ∷ c ∷ text) - 1 ≡ suc (length text) = omega arith in
     let cut : take (length (a ∷ c ∷ text) - 1) (a ∷ c ∷ text) ≡ a ∷ take (length text) (c ∷ text) = ap (λ k. take k (a ∷ c ∷ text)) many in
-    let colon : behind_colon change (a ∷ take (length text) (c ∷ text)) ≡ a ∷ behind_colon change (take (length text) (c ∷ text)) = rw (no_colon a e) refl in
-    record { rest = behind_colon change (take (length text) (c ∷ text)) ++ 13 ∷ []; whole = ap (λ l. behind_colon change l ++ 13 ∷ []) cut ∙ ap (λ l. l ++ 13 ∷ []) colon }
-more_by change a c text false e = record { rest = behind_colon change (c ∷ text); whole = rw (no_colon a e) refl }
+    let colon : after_colon change (a ∷ take (length text) (c ∷ text)) ≡ a ∷ after_colon change (take (length text) (c ∷ text)) = rw (no_colon a e) refl in
+    record { rest = after_colon change (take (length text) (c ∷ text)) ++ 13 ∷ []; whole = ap (λ l. after_colon change l ++ 13 ∷ []) cut ∙ ap (λ l. l ++ 13 ∷ []) colon }
+more_by change a c text false e = record { rest = after_colon change (c ∷ text); whole = rw (no_colon a e) refl }
 
 event_first : (event : Event) (a : ℕ) (text : List ℕ) → (a == 62) ≡ true → Same a (line_with event (a ∷ text))
 unfolding line_with

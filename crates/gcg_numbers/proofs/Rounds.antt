@@ -21,12 +21,12 @@ pub of_other : (event : Event) (events : List Event) (line : List ℕ) → is_ev
     → lines_with (event ∷ events) (line ∷ lines) ≡ first_with (event ∷ events) line ∷ lines_with (event ∷ events) lines
 of_other event events line e lines = lines_by event events line lines false e
 
-none_left : (lines : List (List ℕ)) → lines_with [] lines ≡ lines
-none_left [] = refl
-none_left (line ∷ lines) = refl
+none_remaining : (lines : List (List ℕ)) → lines_with [] lines ≡ lines
+none_remaining [] = refl
+none_remaining (line ∷ lines) = refl
 
 pub of_none : (line : List ℕ) (lines : List (List ℕ)) → lines_with [] (line ∷ lines) ≡ first_with [] line ∷ lines_with [] lines
-of_none line lines = ap (λ l. line ∷ l) (sym (none_left lines))
+of_none line lines = ap (λ l. line ∷ l) (sym (none_remaining lines))
 
 -- ---- the lines after it
 
@@ -41,18 +41,18 @@ joined : (first : List ℕ) (events : List Event) (next : List ℕ) (lines : Lis
 joined first [] next lines = refl
 joined first (event ∷ events) next lines = joined_of first event events next lines (is_event_line next) refl
 
-pub one_line_more : (out line next : List ℕ) (events left : List Event) (lines more : List (List ℕ)) → lines ≡ next ∷ more
-    → ((all : List (List ℕ)) → lines_with events (line ∷ all) ≡ first_with events line ∷ lines_with left all)
-    → ((out ++ first_with events line) ++ 10 ∷ []) ++ join_with_byte 10 (lines_with left (next ∷ more)) ≡ out ++ join_with_byte 10 (lines_with events (line ∷ lines))
-one_line_more out line next events left lines more same each =
-    append_assoc (out ++ first_with events line) (10 ∷ []) (join_with_byte 10 (lines_with left (next ∷ more)))
-    ∙ append_assoc out (first_with events line) (10 ∷ join_with_byte 10 (lines_with left (next ∷ more)))
-    ∙ ap (λ l. out ++ l) (sym (joined (first_with events line) left next more))
+pub one_line_more : (out line next : List ℕ) (events remaining : List Event) (lines more : List (List ℕ)) → lines ≡ next ∷ more
+    → ((all : List (List ℕ)) → lines_with events (line ∷ all) ≡ first_with events line ∷ lines_with remaining all)
+    → ((out ++ first_with events line) ++ 10 ∷ []) ++ join_with_byte 10 (lines_with remaining (next ∷ more)) ≡ out ++ join_with_byte 10 (lines_with events (line ∷ lines))
+one_line_more out line next events remaining lines more same each =
+    append_assoc (out ++ first_with events line) (10 ∷ []) (join_with_byte 10 (lines_with remaining (next ∷ more)))
+    ∙ append_assoc out (first_with events line) (10 ∷ join_with_byte 10 (lines_with remaining (next ∷ more)))
+    ∙ ap (λ l. out ++ l) (sym (joined (first_with events line) remaining next more))
     ∙ ap (λ l. out ++ join_with_byte 10 l) (sym (each (next ∷ more))) ∙ ap (λ l. out ++ join_with_byte 10 (lines_with events (line ∷ l))) (sym same)
 
-pub at_the_end : (out line : List ℕ) (events left : List Event) → ((all : List (List ℕ)) → lines_with events (line ∷ all) ≡ first_with events line ∷ lines_with left all)
+pub at_the_end : (out line : List ℕ) (events remaining : List Event) → ((all : List (List ℕ)) → lines_with events (line ∷ all) ≡ first_with events line ∷ lines_with remaining all)
     → out ++ first_with events line ≡ out ++ join_with_byte 10 (lines_with events (line ∷ []))
-at_the_end out line events left each = ap (λ l. out ++ join_with_byte 10 l) (sym (each []))
+at_the_end out line events remaining each = ap (λ l. out ++ join_with_byte 10 l) (sym (each []))
 
 -- there is no event left
 pub of_nothing : (events : List Event) (line : List ℕ) → None ≡ slice_get events 0 → (lines : List (List ℕ)) → lines_with events (line ∷ lines) ≡ first_with events line ∷ lines_with events lines

@@ -17,15 +17,15 @@ use Rattle.gcg_numbers.proofs.Feeds.{HasNoFeed, others_written, lines_no_feed, s
 use Rattle.gcg_numbers.proofs.Lines.{walked}
 use Rattle.gcg_numbers.proofs.Marks.{marked}
 
-many_by : (event : Event) (events : List Event) (line : List ℕ) (lines : List (List ℕ)) (b : Bool) → length (lines_with events lines) ≡ length lines → length (lines_with (event ∷ events) lines) ≡ length lines
+number_by : (event : Event) (events : List Event) (line : List ℕ) (lines : List (List ℕ)) (b : Bool) → length (lines_with events lines) ≡ length lines → length (lines_with (event ∷ events) lines) ≡ length lines
     → length (if b then line_with event line ∷ lines_with events lines else line ∷ lines_with (event ∷ events) lines) ≡ length (line ∷ lines)
-many_by event events line lines true h k = omega (arith, h)
-many_by event events line lines false h k = omega (arith, k)
+number_by event events line lines true h k = omega (arith, h)
+number_by event events line lines false h k = omega (arith, k)
 
 many : (events : List Event) (lines : List (List ℕ)) → length (lines_with events lines) ≡ length lines
 many events [] = refl
 many [] (line ∷ lines) = refl
-many (event ∷ events) (line ∷ lines) = many_by event events line lines (is_event_line line) (many events lines) (many (event ∷ events) lines)
+many (event ∷ events) (line ∷ lines) = number_by event events line lines (is_event_line line) (many events lines) (many (event ∷ events) lines)
 
 pub again : (lines : List (List ℕ)) → 0 < length lines → Each HasNoFeed lines → slice_split is_feed (join_with_byte 10 lines) ≡ lines
 again [] some h = absurd (omega arith)

@@ -53,7 +53,7 @@ before_end text start end some bound ink low blank =
 pub last_there : (text : List ℕ) (start end : ℕ) → 0 < end → end ≤ length text → AreOf true (drop end text) → (0 < end → is_blank (slice_index text (end - 1)) ≡ false)
     → start ≤ length (take end text) → AreOf false (drop start (take end text)) → (0 < start → is_blank (slice_index (take end text) (start - 1)) ≡ true)
     → last_field text ≡ Some (record { front = take start text; field = take (end - start) (drop start text); back = take (length text - end) (drop end text) })
-last_there text start end some bound behind ink low field blank =
+last_there text start end some bound following ink low field blank =
     let inside : start < end = before_end text start end some bound (ink some) low blank in
     let cut : drop start (take end text) ≡ take (end - start) (drop start text) =
     ap (λ k. drop start (take k text)) (let n : end ≡ start + (end - start) = omega arith in n) ∙ drop-take start (end - start) text in
@@ -65,7 +65,7 @@ last_there text start end some bound behind ink low field blank =
     let long : 0 < length (take (end - start) (drop start text)) = omega (arith, length-take (end - start) (drop start text), length-drop start text) in
     let front : EndsBlank (take start text) =
     ends_at text start (omega arith) (λ k. ap is_blank (sym (get_or-take end text (start - 1) 0 (omega arith))) ∙ blank k) in
-    ap last_field whole ∙ last_of (take start text) (take (end - start) (drop start text)) (drop end text) front long filled behind
+    ap last_field whole ∙ last_of (take start text) (take (end - start) (drop start text)) (drop end text) front long filled following
     ∙ ap (λ l. Some (let r : Last = record { front = take start text; field = take (end - start) (drop start text); back = l } in r)) (sym rest)
 
 pub none_there : (text : List ℕ) (end : ℕ) → end ≡ 0 → AreOf true (drop end text) → last_field text ≡ None

@@ -12,7 +12,7 @@ use Rattle.gcg_read.specs.Records.{NamedEvent, entry_of, with_event, players_wit
 use Rattle.gcg_write.proofs.Inversions.{stepped, on_its_line, ok_same}
 use Rattle.gcg_write.proofs.Each.{Each}
 use Rattle.gcg_write.proofs.Splitting.{Fails}
-use Rattle.gcg_numbers.specs.Numbers.{behind_colon, with_numbers, is_event_line}
+use Rattle.gcg_numbers.specs.Numbers.{after_colon, with_numbers, is_event_line}
 use Rattle.gcg_numbers.specs.Laws.{IsOther}
 use Rattle.gcg_numbers.proofs.Heads.{Colon, cut, head_cut, named_other, no_head}
 use Rattle.gcg_numbers.proofs.Entries.{entered, entry_other, Two, two_of}
@@ -52,10 +52,10 @@ same_player e new is = ap (λ (x : Event). x.player) is.same
 
 pub add_other : (players : Players) (done other : List Event) (n : ℕ) (text : List ℕ) (next : Record) (new : Event) (a : Added players done n text next) → length other ≡ length done
     → IsOther a.entry.event new
-    → with_event (so_far players other) n (behind_colon (with_numbers new) text) ≡ Ok (so_far next.players (other ++ new ∷ []))
+    → with_event (so_far players other) n (after_colon (with_numbers new) text) ≡ Ok (so_far next.players (other ++ new ∷ []))
 add_other players done other n text next new a many is =
     let read = entry_other (so_far players done) (so_far players other) n text a.entry new refl many is a.read in
-    add_with players other n (behind_colon (with_numbers new) text) (record { nick = a.entry.nick; event = new }) read
+    add_with players other n (after_colon (with_numbers new) text) (record { nick = a.entry.nick; event = new }) read
     ∙ ap (λ p. Ok (so_far p (other ++ new ∷ []))) (ap (λ seat. seated players seat a.entry.nick) (same_player a.entry.event new is) ∙ sym a.after)
 
 -- a line that is not an event adds no event, whatever its number is

@@ -10,9 +10,9 @@ abbrev pub is_colon : ℕ → Bool
 is_colon byte = byte == 58
 
 -- the lines of what follows an LF
-abbrev pub parts_behind : Option (Bor (List ℕ)) → List (List ℕ)
-parts_behind None = []
-parts_behind (Some after) = slice_split is_feed after.now
+abbrev pub parts_after : Option (Bor (List ℕ)) → List (List ℕ)
+parts_after None = []
+parts_after (Some after) = slice_split is_feed after.now
 
 -- a line with the numbers of the first event, if it is an event line and there is one
 abbrev pub first_with : List Event → List ℕ → List ℕ

@@ -60,9 +60,9 @@ with_numbers event text = with_total text event (last_field text)
 -- ---- lines
 
 -- a text in which what follows the first colon (58) is changed
-abbrev pub behind_colon : (List ℕ → List ℕ) → List ℕ → List ℕ
-behind_colon change [] = []
-behind_colon change (byte ∷ text) = if byte == 58 then byte ∷ change text else byte ∷ behind_colon change text
+abbrev pub after_colon : (List ℕ → List ℕ) → List ℕ → List ℕ
+after_colon change [] = []
+after_colon change (byte ∷ text) = if byte == 58 then byte ∷ change text else byte ∷ after_colon change text
 
 -- a line that is changed, except for a CR (13) at its end
 abbrev pub in_line : (List ℕ → List ℕ) → List ℕ → List ℕ
@@ -70,7 +70,7 @@ in_line change line = if ends_with eqb line (13 ∷ []) then change (take (lengt
 
 -- the line of an event with its numbers
 unfoldable pub line_with : Event → List ℕ → List ℕ
-line_with event line = in_line (behind_colon (with_numbers event)) line
+line_with event line = in_line (after_colon (with_numbers event)) line
 
 -- '>' (62) at the front
 abbrev pub is_event_line : List ℕ → Bool

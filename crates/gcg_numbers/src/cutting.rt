@@ -25,7 +25,7 @@ fn is_blank(byte: u8) -> bool
 /// The number of bytes of a text before its last bytes that are all blanks, or none of which is a blank.
 fn count_before(text: &[u8], blank: bool) -> usize
     ensures bound { result ≤ length text.now }
-    ensures behind { AreOf blank (drop result text.now) }
+    ensures following { AreOf blank (drop result text.now) }
     ensures stops { 0 < result → is_blank (slice_index text.now (result - 1)) ≡ not blank }
 {
     let mut end = text.len();

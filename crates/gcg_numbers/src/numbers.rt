@@ -6,9 +6,9 @@ ghost use Rattle.gcg_read.specs.Numerals.{points_of};
 ghost use Rattle.gcg_numbers.specs.Numbers.{last_field, says, number_text, with_score, with_numbers};
 
 use crate::cutting::last_field;
-use decimal_text::push_number;
 use gcg_read::{Event, Points};
 use std::alloc::AllocError;
+use text_decimals::push_number;
 
 /// Whether a field is this number.
 fn says(field: &[u8], right: Points) -> bool

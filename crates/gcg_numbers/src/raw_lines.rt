@@ -2,7 +2,7 @@
 ghost use Rattle.std.specs.Prelude.{◌≡◌, ◌<◌, ◌++◌, ◌∷◌, length, IfSome, OnOk};
 ghost use Rattle.std.specs.List.{position, slice_split};
 ghost use Rattle.text_lines.specs.Lines.{is_feed};
-ghost use Rattle.gcg_numbers.specs.Lines.{parts_behind};
+ghost use Rattle.gcg_numbers.specs.Lines.{parts_after};
 ghost use Rattle.gcg_numbers.specs.Numbers.{is_event_line, mark_of};
 
 use bstr::ByteSlice;
@@ -28,7 +28,7 @@ fn find_feed(text: &[u8]) -> Option<usize>
 /// Cuts the first line off a text.
 #[tactic(auto, using(crate::proofs::Cuts::lines_end))]
 pub fn cut_raw_line(text: &[u8]) -> RawLine<'_>
-    ensures lines { slice_split is_feed text.now ≡ result.line.now ∷ parts_behind result.after }
+    ensures lines { slice_split is_feed text.now ≡ result.line.now ∷ parts_after result.after }
     ensures shorter { IfSome result.after (λ after. length after.now < length text.now) }
 {
     match find_feed(text) {

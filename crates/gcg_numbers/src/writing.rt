@@ -2,7 +2,7 @@
 ghost use Rattle.std.specs.Prelude.{◌≡◌, ◌≤◌, ◌++◌, ◌∷◌, ℕ, List, drop, length, IfOk, OnOk};
 ghost use Rattle.std.specs.List.{position};
 ghost use Rattle.gcg_numbers.specs.Lines.{is_colon, first_with};
-ghost use Rattle.gcg_numbers.specs.Numbers.{with_numbers, behind_colon, line_with, lines_with, text_with};
+ghost use Rattle.gcg_numbers.specs.Numbers.{with_numbers, after_colon, line_with, lines_with, text_with};
 
 use crate::numbers::push_numbers;
 use crate::raw_lines::{cut_raw_line, is_event_line, push_mark};
@@ -21,8 +21,8 @@ fn find_colon(line: &[u8]) -> Option<usize>
 
 /// Appends the text of an event line with the numbers of its event, which come after the first colon.
 #[tactic(auto, using(crate::proofs::Colons::none, crate::proofs::Colons::there))]
-fn push_behind_colon(out: &mut Vec<u8>, line: &[u8], event: &Event) -> Result<(), AllocError>
-    ensures { OnOk result (out.new.items ≡ out.old.items ++ behind_colon (with_numbers event.now) line.now) }
+fn push_from_colon(out: &mut Vec<u8>, line: &[u8], event: &Event) -> Result<(), AllocError>
+    ensures { OnOk result (out.new.items ≡ out.old.items ++ after_colon (with_numbers event.now) line.now) }
 {
     let Some(colon) = find_colon(line) else {
         return out.extend_from_slice(line);
@@ -42,11 +42,11 @@ pub fn push_line_with(out: &mut Vec<u8>, line: &[u8], event: &Event) -> Result<(
 {
     match line {
         [front @ .., b'\r'] => {
-            push_behind_colon(out, front, event)?;
+            push_from_colon(out, front, event)?;
             out.push(b'\r')?;
             Ok(())
         }
-        _ => push_behind_colon(out, line, event),
+        _ => push_from_colon(out, line, event),
     }
 }
 

@@ -86,7 +86,7 @@ first_step before line rest so_far fault (Err w) is done e later =
     record {
       before = before;
       line = line;
-      behind = rest;
+      following = rest;
       so_far = so_far;
       whole = refl;
       earlier = done;
@@ -99,8 +99,8 @@ first_step before line rest so_far fault (Ok next) is done e later =
     let read = from_more no_record 1 before line so_far next done (subst (λ k. with_line so_far k line ≡ Ok next) (sym number) is) in
     subst (λ lines. IsFirstFault lines fault) (append_assoc before (line ∷ []) rest) (later next read (subst (λ k. record_from next k rest ≡ Err fault) further e))
 
-first_from : (behind before : List (List ℕ)) (so_far : Record) (fault : ReadFault) → record_from no_record 1 before ≡ Ok so_far → record_from so_far (length before + 1) behind ≡ Err fault
-    → IsFirstFault (before ++ behind) fault
+first_from : (following before : List (List ℕ)) (so_far : Record) (fault : ReadFault) → record_from no_record 1 before ≡ Ok so_far → record_from so_far (length before + 1) following ≡ Err fault
+    → IsFirstFault (before ++ following) fault
 unfolding record_from
 first_from [] before so_far fault done e = absurd cc
 first_from (line ∷ rest) before so_far fault done e =

@@ -30,9 +30,9 @@ module _ {A B E : Type 0} where
   after Q P (Err w) f h g = tt
 
   -- the same if what the first step gives does not matter
-  behind : (P : B → Type 0) (r : Result A E) (f : A → Result B E) → ((x : A) → IfOk (f x) P) → IfOk (r >>= f) P
-  behind P (Ok x) f g = g x
-  behind P (Err w) f g = tt
+  following : (P : B → Type 0) (r : Result A E) (f : A → Result B E) → ((x : A) → IfOk (f x) P) → IfOk (r >>= f) P
+  following P (Ok x) f g = g x
+  following P (Err w) f g = tt
 
 -- one of two
 either : {A E : Type 0} (P : A → Type 0) (b : Bool) (x y : Result A E) → IfOk x P → IfOk y P → IfOk (if b then x else y) P
@@ -52,17 +52,17 @@ IsOn line event = event.line ≡ line
 scored_line : (heading : Heading) (rack : Option (List ℕ)) (what : EventKind) (score total : List ℕ) → IfOk (scored_of heading rack what score total) (IsOn heading.line)
 unfolding scored_of
 scored_line heading rack what score total =
-    behind (IsOn heading.line) (ok_or (points_of score) why.Number) _ (λ points. behind (IsOn heading.line) (ok_or (points_of total) why.Number) _ (λ total. refl))
+    following (IsOn heading.line) (ok_or (points_of score) why.Number) _ (λ points. following (IsOn heading.line) (ok_or (points_of total) why.Number) _ (λ total. refl))
 
 played_line : (heading : Heading) (rack : Option (List ℕ)) (position word score total : List ℕ) → IfOk (played_of heading rack position word score total) (IsOn heading.line)
 unfolding played_of
 played_line heading rack position word score total =
-    behind (IsOn heading.line) (ok_or (position_of position) why.Position) _
-    (λ place. behind (IsOn heading.line) (ok_or (text_of word) why.Word) _ (λ text. scored_line heading rack (kind.Play place.at place.dir text) score total))
+    following (IsOn heading.line) (ok_or (position_of position) why.Position) _
+    (λ place. following (IsOn heading.line) (ok_or (text_of word) why.Word) _ (λ text. scored_line heading rack (kind.Play place.at place.dir text) score total))
 
 coded_line : (heading : Heading) (rack : Option (List ℕ)) (code score total : List ℕ) → IfOk (coded_of heading rack code score total) (IsOn heading.line)
 unfolding coded_of
-coded_line heading rack code score total = behind (IsOn heading.line) (ok_or (code_of code) why.Code) _ (λ what. scored_line heading rack what score total)
+coded_line heading rack code score total = following (IsOn heading.line) (ok_or (code_of code) why.Code) _ (λ what. scored_line heading rack what score total)
 
 event_line : (heading : Heading) (fields : List (List ℕ)) → IfOk (event_of heading fields) (IsOn heading.line)
 unfolding event_of
@@ -72,8 +72,8 @@ event_line heading (a ∷ b ∷ []) = tt
 event_line heading (a ∷ b ∷ c ∷ []) = coded_line heading None a b c
 event_line heading (a ∷ b ∷ c ∷ d ∷ []) =
     either (IsOn heading.line) (has_digit a) (played_of heading None a b c d) (ok_or (rack_of a) why.Rack >>= λ rack. coded_of heading (Some rack) b c d) (played_line heading None a b c d)
-    (behind (IsOn heading.line) (ok_or (rack_of a) why.Rack) _ (λ rack. coded_line heading (Some rack) b c d))
-event_line heading (a ∷ b ∷ c ∷ d ∷ e ∷ []) = behind (IsOn heading.line) (ok_or (rack_of a) why.Rack) _ (λ rack. played_line heading (Some rack) b c d e)
+    (following (IsOn heading.line) (ok_or (rack_of a) why.Rack) _ (λ rack. coded_line heading (Some rack) b c d))
+event_line heading (a ∷ b ∷ c ∷ d ∷ e ∷ []) = following (IsOn heading.line) (ok_or (rack_of a) why.Rack) _ (λ rack. played_line heading (Some rack) b c d e)
 event_line heading (a ∷ b ∷ c ∷ d ∷ e ∷ f ∷ rest) = tt
 
 abbrev HasEventOn : ℕ → NamedEvent → Type 0
@@ -83,8 +83,8 @@ entry_line : (so_far : Record) (line : ℕ) (text : List ℕ) → IfOk (entry_of
 unfolding entry_of
 entry_line so_far line text =
     either (HasEventOn line) (nat_le most_events (length so_far.events)) (Err why.TooManyEvents) _ tt
-    (behind (HasEventOn line) (ok_or (head_of text) why.NoColon) _
-    (λ head. behind (HasEventOn line) (ok_or (seat_for so_far.players head.nick) why.ThirdPlayer) _
+    (following (HasEventOn line) (ok_or (head_of text) why.NoColon) _
+    (λ head. following (HasEventOn line) (ok_or (seat_for so_far.players head.nick) why.ThirdPlayer) _
     (λ player. after (IsOn line) (HasEventOn line) (event_of (record { line = line; player = player }) (fields_of head.after)) _
     (event_line (record { line = line; player = player }) (fields_of head.after)) (λ event on. on))))
 
@@ -120,7 +120,7 @@ event_rises so_far n text h =
 
 naming_rises : (so_far : Record) (n : ℕ) (naming : Option Naming) → RiseBelow n so_far → IfOk (with_naming so_far n naming) (RiseBelow (n + 1))
 naming_rises so_far n None h = later so_far n h
-naming_rises so_far n (Some naming) h = behind (RiseBelow (n + 1)) (on_line n (players_with so_far.players naming)) _ (λ players. later so_far n h)
+naming_rises so_far n (Some naming) h = following (RiseBelow (n + 1)) (on_line n (players_with so_far.players naming)) _ (λ players. later so_far n h)
 
 pragma_rises : (so_far : Record) (n : ℕ) (text : List ℕ) → RiseBelow n so_far → IfOk (with_pragma so_far n text) (RiseBelow (n + 1))
 unfolding with_pragma

@@ -2,7 +2,7 @@
 use Rattle.std.specs.Prelude.{ℕ, Bool, ◌==◌, List, [], ◌∷◌, Option, Some, None, is_some, if◌then◌else◌}
 use Rattle.std.specs.List.{position, before_first, after_first}
 use Rattle.text_lines.specs.declared.fields.Field.{Field}
-pub use Rattle.text_lines.specs.Lines.{without_mark, without_return, is_feed, lines_of, lines_behind}
+pub use Rattle.text_lines.specs.Lines.{without_mark, without_return, is_feed, lines_of, lines_after}
 unfoldable pub use Rattle.text_lines.specs.Lines.{lines_in}
 pub use Rattle.text_lines.specs.Fields.{is_blank, is_filled, fields_from}
 unfoldable pub use Rattle.text_lines.specs.Fields.{fields_of}

@@ -10,9 +10,9 @@ use Rattle.gcg_read.specs.Records.{most_bytes, no_record, with_line, record_from
 pub record IsFirstFault (lines : List (List ℕ)) (fault : ReadFault) : Type 0 where
   pub before : List (List ℕ)
   pub line : List ℕ
-  pub behind : List (List ℕ)
+  pub following : List (List ℕ)
   pub so_far : Record
-  pub whole : before ++ line ∷ behind ≡ lines
+  pub whole : before ++ line ∷ following ≡ lines
   pub earlier : record_from no_record 1 before ≡ Ok so_far
   pub number : fault.line ≡ length before + 1
   pub fails : with_line so_far (length before + 1) line ≡ Err fault

@@ -27,7 +27,7 @@ use Rattle.gcg_write.specs.Fields.{tiles_text, row_text, column_byte, position_t
 use Rattle.gcg_write.specs.Normal.{rack_text, event_text_of}
 use Rattle.gcg_write.proofs.Inversions.{stepped, given, ok_same, either_of}
 use Rattle.gcg_write.proofs.Each.{Each, each_append, each_weaken}
-use Rattle.gcg_write.proofs.Splitting.{Fails, field_one, field_more, field_behind}
+use Rattle.gcg_write.proofs.Splitting.{Fails, field_one, field_more, field_after}
 use Rattle.gcg_write.proofs.Digits.{IsDigit, is_digit_true, digits_each, digits_some, points_total, points_score, points_read}
 use Rattle.gcg_write.proofs.Spots.{position_again, position_read}
 use Rattle.gcg_write.proofs.Symbols.{IsGraphic, word_graphic, word_again, text_read}
@@ -205,20 +205,20 @@ played_again heading rack at dir word score total c h k =
     rw (position_again at dir c.0, word_again word c.1 c.2) (scored_again heading rack (kind.Play at dir word) score total h k)
 
 -- the fields of an event, after the colon
-abbrev fields_behind : Option (List ℕ) → EventKind → ℤ → ℤ → List (List ℕ)
-fields_behind rack what score total = fields_of (32 ∷ (rack_text rack ++ (kind_text what ++ 32 ∷ points_text score total)))
+abbrev fields_after : Option (List ℕ) → EventKind → ℤ → ℤ → List (List ℕ)
+fields_after rack what score total = fields_of (32 ∷ (rack_text rack ++ (kind_text what ++ 32 ∷ points_text score total)))
 
 code_event : (heading : Heading) (rack : Option (List ℕ)) (what : EventKind) (score total : ℤ) → IsStated rack → IsCode what → IsPoints score → IsPoints total
-    → event_of heading (fields_behind rack what score total) ≡ Ok (event_at heading rack what score total)
+    → event_of heading (fields_after rack what score total) ≡ Ok (event_at heading rack what score total)
 unfolding event_of
 code_event heading None what score total r c h k =
-    let fields : fields_behind None what score total ≡ kind_text what ∷ score_text score ∷ signed_decimal total ∷ [] =
-    field_behind (kind_text what ++ 32 ∷ points_text score total) ∙ code_fields what (points_text score total) c
+    let fields : fields_after None what score total ≡ kind_text what ∷ score_text score ∷ signed_decimal total ∷ [] =
+    field_after (kind_text what ++ 32 ∷ points_text score total) ∙ code_fields what (points_text score total) c
     ∙ ap (λ (rest : List (List ℕ)). kind_text what ∷ rest) (points_fields score total h k) in
     ap (event_of heading) fields ∙ coded_again heading None what score total c h k
 code_event heading (Some rack) what score total r c h k =
-    let fields : fields_behind (Some rack) what score total ≡ tiles_text rack ∷ kind_text what ∷ score_text score ∷ signed_decimal total ∷ [] =
-    field_behind (rack_text (Some rack) ++ (kind_text what ++ 32 ∷ points_text score total))
+    let fields : fields_after (Some rack) what score total ≡ tiles_text rack ∷ kind_text what ∷ score_text score ∷ signed_decimal total ∷ [] =
+    field_after (rack_text (Some rack) ++ (kind_text what ++ 32 ∷ points_text score total))
     ∙ rack_fields rack (kind_text what ++ 32 ∷ points_text score total) r
     ∙ ap (λ (rest : List (List ℕ)). tiles_text rack ∷ rest) (code_fields what (points_text score total) c)
     ∙ ap (λ (rest : List (List ℕ)). tiles_text rack ∷ kind_text what ∷ rest) (points_fields score total h k) in
@@ -227,25 +227,25 @@ code_event heading (Some rack) what score total r c h k =
 
 play_event : (heading : Heading) (rack : Option (List ℕ)) (at : ℕ) (dir : Dir) (word : List Symbol) (score total : ℤ)
     → IsStated rack → IsKind (kind.Play at dir word) → IsPoints score → IsPoints total
-    → event_of heading (fields_behind rack (kind.Play at dir word) score total) ≡ Ok (event_at heading rack (kind.Play at dir word) score total)
+    → event_of heading (fields_after rack (kind.Play at dir word) score total) ≡ Ok (event_at heading rack (kind.Play at dir word) score total)
 unfolding event_of
 play_event heading None at dir word score total r c h k =
     let what = kind.Play at dir word in
-    let fields : fields_behind None what score total ≡ position_text at dir ∷ word_text word ∷ score_text score ∷ signed_decimal total ∷ [] =
-    field_behind (kind_text what ++ 32 ∷ points_text score total) ∙ play_fields at dir word (points_text score total) c.0 c.1
+    let fields : fields_after None what score total ≡ position_text at dir ∷ word_text word ∷ score_text score ∷ signed_decimal total ∷ [] =
+    field_after (kind_text what ++ 32 ∷ points_text score total) ∙ play_fields at dir word (points_text score total) c.0 c.1
     ∙ ap (λ (rest : List (List ℕ)). position_text at dir ∷ word_text word ∷ rest) (points_fields score total h k) in
     ap (event_of heading) fields ∙ rw (position_digit at dir c.0) (played_again heading None at dir word score total c h k)
 play_event heading (Some rack) at dir word score total r c h k =
     let what = kind.Play at dir word in
-    let fields : fields_behind (Some rack) what score total ≡ tiles_text rack ∷ position_text at dir ∷ word_text word ∷ score_text score ∷ signed_decimal total ∷ [] =
-    field_behind (rack_text (Some rack) ++ (kind_text what ++ 32 ∷ points_text score total))
+    let fields : fields_after (Some rack) what score total ≡ tiles_text rack ∷ position_text at dir ∷ word_text word ∷ score_text score ∷ signed_decimal total ∷ [] =
+    field_after (rack_text (Some rack) ++ (kind_text what ++ 32 ∷ points_text score total))
     ∙ rack_fields rack (kind_text what ++ 32 ∷ points_text score total) r
     ∙ ap (λ (rest : List (List ℕ)). tiles_text rack ∷ rest) (play_fields at dir word (points_text score total) c.0 c.1)
     ∙ ap (λ (rest : List (List ℕ)). tiles_text rack ∷ position_text at dir ∷ word_text word ∷ rest) (points_fields score total h k) in
     ap (event_of heading) fields ∙ rw (rack_again rack r) (played_again heading (Some rack) at dir word score total c h k)
 
 any_event : (heading : Heading) (rack : Option (List ℕ)) (what : EventKind) (score total : ℤ) → IsStated rack → IsKind what → IsPoints score → IsPoints total
-    → event_of heading (fields_behind rack what score total) ≡ Ok (event_at heading rack what score total)
+    → event_of heading (fields_after rack what score total) ≡ Ok (event_at heading rack what score total)
 any_event heading rack (kind.Play at dir word) score total r c h k = play_event heading rack at dir word score total r c h k
 any_event heading rack kind.Pass score total r c h k = code_event heading rack kind.Pass score total r c h k
 any_event heading rack (kind.Exchange tiles) score total r c h k = code_event heading rack (kind.Exchange tiles) score total r c h k

@@ -30,19 +30,19 @@ last_bytes : (x : ℕ) (zs : List ℕ) → 0 < length zs → drop (length zs) (x
 last_bytes x [] some = absurd (omega arith)
 last_bytes x (z ∷ zs) some = ap (λ k. drop k (z ∷ zs)) (omega arith)
 
-some_behind : (xs ys : List ℕ) → 0 < length ys → 0 < length (xs ++ ys)
-some_behind [] ys some = some
-some_behind (x ∷ xs) ys some = omega arith
+some_after : (xs ys : List ℕ) → 0 < length ys → 0 < length (xs ++ ys)
+some_after [] ys some = some
+some_after (x ∷ xs) ys some = omega arith
 
 end_of : (xs ys : List ℕ) → 0 < length ys → drop (length (xs ++ ys) - 1) (xs ++ ys) ≡ drop (length ys - 1) ys
 end_of [] ys some = refl
 end_of (x ∷ xs) ys some =
     let back : suc (length (xs ++ ys)) - 1 ≡ length (xs ++ ys) = omega arith in
-    ap (λ k. drop k (x ∷ (xs ++ ys))) back ∙ last_bytes x (xs ++ ys) (some_behind xs ys some) ∙ end_of xs ys some
+    ap (λ k. drop k (x ∷ (xs ++ ys))) back ∙ last_bytes x (xs ++ ys) (some_after xs ys some) ∙ end_of xs ys some
 
 -- what follows decides how a line ends
-pub ends_behind : (xs ys : List ℕ) → 0 < length ys → returns (xs ++ ys) ≡ returns ys
-ends_behind xs ys some = ap (pointwise eqb (13 ∷ [])) (end_of xs ys some)
+pub ends_after : (xs ys : List ℕ) → 0 < length ys → returns (xs ++ ys) ≡ returns ys
+ends_after xs ys some = ap (pointwise eqb (13 ∷ [])) (end_of xs ys some)
 
 ink_ends : (ys : List ℕ) → Each IsInk ys → pointwise eqb (13 ∷ []) ys ≡ false
 ink_ends [] h = refl

@@ -53,14 +53,14 @@ nick_there nick some h =
 before : (nick rest : List ℕ) → Each (Fails is_blank) nick → before_first is_blank (nick ++ 32 ∷ rest) ≡ nick
 before nick rest h = rw (first_place is_blank nick 32 rest h refl) (take_front nick (32 ∷ rest))
 
-behind : (nick rest : List ℕ) → Each (Fails is_blank) nick → after_first is_blank (nick ++ 32 ∷ rest) ≡ rest
-behind nick rest h = rw (first_place is_blank nick 32 rest h refl) (drop_more nick 32 rest)
+following : (nick rest : List ℕ) → Each (Fails is_blank) nick → after_first is_blank (nick ++ 32 ∷ rest) ≡ rest
+following nick rest h = rw (first_place is_blank nick 32 rest h refl) (drop_more nick 32 rest)
 
 before_alone : (nick : List ℕ) → Each (Fails is_blank) nick → before_first is_blank nick ≡ nick
 before_alone nick h = rw (no_place is_blank nick h) (take_all (length nick) nick (omega arith))
 
-behind_alone : (nick : List ℕ) → Each (Fails is_blank) nick → after_first is_blank nick ≡ []
-behind_alone nick h = rw (no_place is_blank nick h) (drop_all (length nick + 1) nick (omega arith))
+after_alone : (nick : List ℕ) → Each (Fails is_blank) nick → after_first is_blank nick ≡ []
+after_alone nick h = rw (no_place is_blank nick h) (drop_all (length nick + 1) nick (omega arith))
 
 -- a nickname and a full name, from the text that has them
 names_from : (text nick full : List ℕ) (seat : Seat) → before_first is_blank text ≡ nick → trimmed (after_first is_blank text) ≡ full → is_nick nick ≡ true
@@ -80,11 +80,11 @@ names_again : (nick full : List ℕ) (seat : Seat) → 0 < length nick → IsPla
 names_again nick [] seat some h =
     let blanks = nick_no_blank nick h.nick in
     ap (λ (text : List ℕ). names_of text seat) (append-nil nick)
-    ∙ names_from nick nick [] seat (before_alone nick blanks) (ap trimmed (behind_alone nick blanks)) (nick_there nick some h.nick)
+    ∙ names_from nick nick [] seat (before_alone nick blanks) (ap trimmed (after_alone nick blanks)) (nick_there nick some h.nick)
 names_again nick (c ∷ cs) seat some h =
     let blanks = nick_no_blank nick h.nick in
     ap (λ (text : List ℕ). names_of (nick ++ text) seat) (full_there c cs)
-    ∙ names_from (nick ++ 32 ∷ c ∷ cs) nick (c ∷ cs) seat (before nick (c ∷ cs) blanks) (ap trimmed (behind nick (c ∷ cs) blanks) ∙ h.bare)
+    ∙ names_from (nick ++ 32 ∷ c ∷ cs) nick (c ∷ cs) seat (before nick (c ∷ cs) blanks) (ap trimmed (following nick (c ∷ cs) blanks) ∙ h.bare)
     (nick_there nick some h.nick)
 
 front_kept : (nick rest : List ℕ) → 0 < length nick → Each IsNickByte nick → front_trimmed (nick ++ rest) ≡ nick ++ rest

@@ -162,8 +162,8 @@ unfolding naming_of
 naming_read text naming h e =
     let rest = front_trimmed (after_first is_blank text) in
     let parts = chained (names_of rest) (seat_named (before_first is_blank text)) naming e in
-    let behind = each_drop (Fails is_feed) (position_or_len is_blank text + 1) text h in
-    names_read rest parts.0 naming (each_drop (Fails is_feed) _ (after_first is_blank text) behind) parts.1.1
+    let following = each_drop (Fails is_feed) (position_or_len is_blank text + 1) text h in
+    names_read rest parts.0 naming (each_drop (Fails is_feed) _ (after_first is_blank text) following) parts.1.1
 
 -- ---- players
 

@@ -18,7 +18,7 @@ use Rattle.gcg_write.specs.Rounds.{first_line, normal_record, EndsInNoReturn}
 use Rattle.gcg_write.proofs.Each.{Each, each_append, each_weaken}
 use Rattle.gcg_write.proofs.Splitting.{Fails}
 use Rattle.gcg_write.proofs.Entries.{IsInk, IsEvent, ink_event, ink_stated, ink_total, some_total}
-use Rattle.gcg_write.proofs.LineCuts.{IsLine, returns, ends_behind, ends_in_ink, lines_again}
+use Rattle.gcg_write.proofs.LineCuts.{IsLine, returns, ends_after, ends_in_ink, lines_again}
 use Rattle.gcg_write.proofs.Names.{IsPlayer, nick_no_feed, full_there, two, is_named, unnamed_lines, named_lines, ArePlayers, players_read}
 use Rattle.gcg_write.proofs.EventReadings.{IsOf, nick_in, events_again}
 
@@ -39,7 +39,7 @@ full_no_feed (c ∷ cs) h = rw (full_there c cs) (refl, h)
 
 full_ends : (nick full : List ℕ) → returns nick ≡ false → returns full ≡ false → returns (nick ++ full_text full) ≡ false
 full_ends nick [] h k = rw (append-nil nick) h
-full_ends nick (c ∷ cs) h k = rw (full_there c cs) (ends_behind nick (32 ∷ c ∷ cs) (omega arith) ∙ ends_behind (32 ∷ []) (c ∷ cs) (omega arith) ∙ k)
+full_ends nick (c ∷ cs) h k = rw (full_there c cs) (ends_after nick (32 ∷ c ∷ cs) (omega arith) ∙ ends_after (32 ∷ []) (c ∷ cs) (omega arith) ∙ k)
 
 some_named : (nick rest : List ℕ) → 0 < length nick → 0 < length (nick ++ rest)
 some_named [] rest h = absurd (omega arith)
@@ -52,7 +52,7 @@ player_line front nick full lead some h a b =
       one = each_append (Fails is_feed) ((35 ∷ front) ++ nick) (full_text full)
           (each_append (Fails is_feed) (35 ∷ front) nick lead (nick_no_feed nick h.nick)) (full_no_feed full h.full);
       ends = ap returns (append_assoc (35 ∷ front) nick (full_text full))
-          ∙ ends_behind (35 ∷ front) (nick ++ full_text full) (some_named nick (full_text full) some) ∙ full_ends nick full a b;
+          ∙ ends_after (35 ∷ front) (nick ++ full_text full) (some_named nick (full_text full) some) ∙ full_ends nick full a b;
       leads = inl refl;
     }
 
@@ -80,9 +80,9 @@ unfolding event_text_of
 event_ends e h =
     let total = signed_decimal e.total in
     let some = some_total e.total h.total in
-    ends_behind (kind_text e.kind) (32 ∷ points_text e.score e.total) (omega arith)
-    ∙ ends_behind (32 ∷ score_text e.score) (32 ∷ total) (omega arith)
-    ∙ ends_behind (32 ∷ []) total some
+    ends_after (kind_text e.kind) (32 ∷ points_text e.score e.total) (omega arith)
+    ∙ ends_after (32 ∷ score_text e.score) (32 ∷ total) (omega arith)
+    ∙ ends_after (32 ∷ []) total some
     ∙ ends_in_ink total (ink_total e.total h.total)
 
 event_some : (e : Event) → 0 < length (event_text_of e)
@@ -99,7 +99,7 @@ event_lined players e h own =
     record {
       one = each_append (Fails is_feed) (front ++ rack_text e.rack) (event_text_of e)
           (each_append (Fails is_feed) front (rack_text e.rack) front_one (rack_no_feed e own.0)) (event_no_feed e own.0);
-      ends = ends_behind (front ++ rack_text e.rack) (event_text_of e) (event_some e) ∙ event_ends e own.0;
+      ends = ends_after (front ++ rack_text e.rack) (event_text_of e) (event_some e) ∙ event_ends e own.0;
       leads = inr refl;
     }
 

@@ -44,6 +44,6 @@ unfolding fields_of
 field_more xs ys some h = rw (split_next is_blank xs 32 ys h refl, filled xs some) refl
 
 -- a blank at the front is ignored
-pub field_behind : (ys : List ℕ) → fields_of (32 ∷ ys) ≡ fields_of ys
+pub field_after : (ys : List ℕ) → fields_of (32 ∷ ys) ≡ fields_of ys
 unfolding fields_of
-field_behind ys = refl
+field_after ys = refl

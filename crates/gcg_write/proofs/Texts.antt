@@ -41,10 +41,10 @@ normal_parts r =
     ∙ ap (λ t. text_of_lines one ++ text_of_lines two ++ t) (lines_of_events r.players r.events)
 
 -- the normal form after an output, part by part
-pub normal_behind : (out : List ℕ) (r : Record)
+pub normal_after : (out : List ℕ) (r : Record)
     → out ++ normal_of r ≡ out ++ text_of_lines (player_lines (codes "#player1 ") r.players.first)
     ++ text_of_lines (player_lines (codes "#player2 ") r.players.second) ++ events_text r.players r.events
-normal_behind out r =
+normal_after out r =
     let one = text_of_lines (player_lines (codes "#player1 ") r.players.first) in
     let two = text_of_lines (player_lines (codes "#player2 ") r.players.second) in
     ap (λ (text : List ℕ). out ++ text) (normal_parts r) ∙ sym (append_assoc out (one ++ two) (events_text r.players r.events))

@@ -93,8 +93,8 @@ letters_step : (counts : List ℕ) (n m : ℕ)
     → cond (ltb n m) (get_or counts n 0) 0 + cond (eqb m n) (get_or counts m 0) 0 ≡ cond (ltb n (suc m)) (get_or counts n 0) 0
 letters_step counts n m =
     elim (eqb_tells m n) [
-      | inl same ↦ let number = ap (λ k. get_or counts k 0) same.1 in let tells = same.0 in let at = same.1 in grind (arith, nat_tests)
-      | inr other ↦ let tells = other.0 in let apart = other.1 in grind (arith, nat_tests)
+      | inl same ↦ let number = ap (λ k. get_or counts k 0) same.1 in let reports = same.0 in let at = same.1 in grind (arith, nat_tests)
+      | inr other ↦ let reports = other.0 in let apart = other.1 in grind (arith, nat_tests)
     ]
 
 written_letters : (counts : List ℕ) (n m : ℕ) → m ≤ 26 → written n (letters_to counts m) ≡ cond (ltb n m) (get_or counts n 0) 0
@@ -108,8 +108,8 @@ written_letters counts n (suc m) h =
 tiles_step : (counts : List ℕ) (n : ℕ) → n < 27 → cond (ltb n 26) (get_or counts n 0) 0 + cond (eqb 26 n) (get_or counts 26 0) 0 ≡ get_or counts n 0
 tiles_step counts n h =
     elim (eqb_tells 26 n) [
-      | inl same ↦ let number = ap (λ k. get_or counts k 0) same.1 in let tells = same.0 in let at = same.1 in grind (arith, nat_tests)
-      | inr other ↦ let tells = other.0 in let apart = other.1 in grind (arith, nat_tests)
+      | inl same ↦ let number = ap (λ k. get_or counts k 0) same.1 in let reports = same.0 in let at = same.1 in grind (arith, nat_tests)
+      | inr other ↦ let reports = other.0 in let apart = other.1 in grind (arith, nat_tests)
     ]
 
 -- each kind is written as often as there are tiles of it

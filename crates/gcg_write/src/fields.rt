@@ -4,11 +4,11 @@ ghost use Rattle.std.specs.Fmt.{signed_decimal};
 ghost use Rattle.gcg_write.specs.Fields.{letters_text, tiles_text, position_text, word_text, play_text, score_text, points_text};
 ghost use Rattle.text_lines.specs.Fronts.{IsFront};
 
-use decimal_text::push_number;
 use gcg_read::Points;
 use ref_board::{Dir, Square};
 use ref_tiles::{Counts, Kind, Letter, Symbol};
 use std::alloc::AllocError;
+use text_decimals::push_number;
 
 /// Appends a byte the given number of times.
 fn push_times(byte: u8, times: u8, out: &mut Vec<u8>) -> Result<(), AllocError>

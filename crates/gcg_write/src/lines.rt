@@ -5,10 +5,10 @@ ghost use Rattle.gcg_write.specs.Normal.{event_text_of, rack_text, head_text, ev
 ghost use Rattle.text_lines.specs.Fronts.{IsFront};
 
 use crate::fields::{push_play, push_points, push_tiles};
-use decimal_text::push_number;
 use gcg_read::{Event, EventKind, Player, Players, Record};
 use ref_tiles::Counts;
 use std::alloc::AllocError;
+use text_decimals::push_number;
 
 /// Appends what happened: the position and the word of a play, or a code.
 #[tactic(auto, unfolding(crate::specs::Fields::kind_text))]
@@ -91,7 +91,11 @@ fn push_head(players: &Players, event: &Event, out: &mut Vec<u8>) -> Result<(), 
 
 /// Appends the line of an event, without an LF.
 #[tactic(auto, unfolding(crate::specs::Normal::event_line))]
-pub fn push_line(players: &Players, event: &Event, out: &mut Vec<u8>) -> Result<(), AllocError>
+pub fn push_line_of_event(
+    players: &Players,
+    event: &Event,
+    out: &mut Vec<u8>,
+) -> Result<(), AllocError>
     ensures done { OnOk result (out.new.items ≡ out.old.items ++ event_line players.now event.now) }
     ensures kept { IsFront out.old.items out.new.items }
 {
@@ -105,7 +109,7 @@ fn push_event_line(players: &Players, event: &Event, out: &mut Vec<u8>) -> Resul
     ensures done { OnOk result (out.new.items ≡ out.old.items ++ (event_line players.now event.now ++ 10 ∷ [])) }
     ensures kept { IsFront out.old.items out.new.items }
 {
-    push_line(players, event, out)?;
+    push_line_of_event(players, event, out)?;
     out.push(b'\n')?;
     Ok(())
 }
@@ -151,7 +155,7 @@ fn push_player(pragma: &[u8], player: &Player, out: &mut Vec<u8>) -> Result<(), 
 }
 
 /// Appends the normal form of a record.
-#[tactic(auto, using(crate::proofs::Texts::normal_behind))]
+#[tactic(auto, using(crate::proofs::Texts::normal_after))]
 pub fn push_record(game: &Record, out: &mut Vec<u8>) -> Result<(), AllocError>
     ensures done { OnOk result (out.new.items ≡ out.old.items ++ normal_of game.now) }
     ensures kept { IsFront out.old.items out.new.items }

@@ -5,7 +5,7 @@ ghost use Rattle.gcg_write.specs.Fields.{play_text, tiles_text};
 ghost use Rattle.gcg_write.specs.Normal.{normal_of, event_line, event_text_of};
 
 use crate::fields::{push_play, push_tiles};
-use crate::lines::{push_event, push_line, push_record};
+use crate::lines::{push_event, push_line_of_event, push_record};
 use gcg_read::{Event, Players, Record};
 use ref_board::{Dir, Square};
 use ref_tiles::{Counts, Symbol};
@@ -41,7 +41,7 @@ pub fn line_text(players: &Players, event: &Event, out: &mut Vec<u8>) -> Result<
     ensures refused { OnErr result (out.new.items ≡ out.old.items) }
 {
     let len = out.len();
-    restored(push_line(players, event, out), len, out)
+    restored(push_line_of_event(players, event, out), len, out)
 }
 
 /// Appends what the line of event `i` says after its rack, in the normal form: the event, its score and the

@@ -53,7 +53,7 @@ score_of_tile rules words board cross size right d square t on free =
     let points = points_of rules t.kind * letter_factor (premium_at rules square) in
     let side = (value_at cross d square).side in
     let score : List Run → ℕ = λ runs. sum_by (λ run. (old_points rules board run + points) * factor) runs in
-    let told : List Run → ℕ = λ runs. if length runs == 0 then 0 else (side + points) * factor in
+    let reported : List Run → ℕ = λ runs. if length runs == 0 then 0 else (side + points) * factor in
     let there = run_there board (other_dir d) square size on in
     let run = there.0 in
     let is = there.1 in
@@ -64,11 +64,11 @@ score_of_tile rules words board cross size right d square t on free =
     (λ (short : run.len < 2).
     let none : cross_runs (other_dir d) board square t ≡ [] =
     ap (λ (x : Dir). cross_runs x board square t) (sym is) ∙ no_run_through run.dir after square run.start run.len (through.through t) short in
-    subst (λ runs. score runs ≡ told runs) (sym none) refl)
+    subst (λ runs. score runs ≡ reported runs) (sym none) refl)
     (λ (long : 2 ≤ run.len).
     let one : cross_runs (other_dir d) board square t ≡ run ∷ [] =
     ap (λ (x : Dir). cross_runs x board square t) (sym is) ∙ run_through run.dir after square run.start run.len on (through.through t) long in
     let same : old_points rules board run ≡ side = sym (beside ∙ side_long rules d board square run is through long) in
-    subst (λ runs. score runs ≡ told runs) (sym one)
+    subst (λ runs. score runs ≡ reported runs) (sym one)
     (sum_of_one (λ run. (old_points rules board run + points) * factor) run ∙ ap (λ x. (x + points) * factor) same))
     (cases_lt run.len 2)

@@ -85,11 +85,11 @@ path_whole board e square t first len size on low high inside =
     let same : (i : ℕ) → i < 15 → (i ≡ place → ⊥) → g i ≡ f i = λ i below ne. ap label_of_tile (sym (with_elsewhere board e square t i on below ne)) in
     let here : t.shown.index + 1 ≡ f place = ap label_of_tile (sym (with_there board square t (omega arith)) ∙ ap (tile_at (with_tile board square (Some t))) (sym (square_at-of e square))) in
     let before = down_agree g f first (place - first) (λ i l h. same i (omega arith) (λ s. absurd (omega arith))) in
-    let behind = down_agree g f (place + 1) (first + len - (place + 1)) (λ i l h. same i (omega arith) (λ s. absurd (omega arith))) in
+    let following = down_agree g f (place + 1) (first + len - (place + 1)) (λ i l h. same i (omega arith) (λ s. absurd (omega arith))) in
     let at : place ≡ first + (place - first) = omega arith in
     let start : place + 1 ≡ first + (place - first) + 1 = omega arith in
     let whole : place - first + 1 + (first + len - (place + 1)) ≡ len = omega arith in
-    ap (λ (x : List ℕ). x ++ (t.shown.index + 1) ∷ down g first (place - first)) behind
+    ap (λ (x : List ℕ). x ++ (t.shown.index + 1) ∷ down g first (place - first)) following
     ∙ ap (λ (x : List ℕ). down f (place + 1) (first + len - (place + 1)) ++ (t.shown.index + 1) ∷ x) before
     ∙ ap (λ (x : ℕ). down f (place + 1) (first + len - (place + 1)) ++ x ∷ down f first (place - first)) (here ∙ ap f at)
     ∙ ap (λ (x : ℕ). down f x (first + len - (place + 1)) ++ f (first + (place - first)) ∷ down f first (place - first)) start

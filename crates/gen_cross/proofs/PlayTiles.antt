@@ -15,7 +15,7 @@ use Rattle.ref_play.specs.Legality.{last_square}
 use Rattle.ref_play.proofs.RangeLaws.{Contains-cases, Contains-here, Contains-there}
 use Rattle.ref_play.proofs.LineLaws.{line_of-square_at, place_of-square_at, line_below}
 use Rattle.ref_play.proofs.LegalLaws.{place_follows}
-use Rattle.ref_play.proofs.PlaceLaws.{is_play-parts, on_one_line, behind_first, before_last, last_is_there}
+use Rattle.ref_play.proofs.PlaceLaws.{is_play-parts, on_one_line, after_first, before_last, last_is_there}
 use Rattle.ref_play.proofs.FormedRuns.{same_by_lines, covering, none_contained}
 use Rattle.ref_play.proofs.Laying.{on_same_line}
 use Rattle.gen_cross.specs.declared.crosses.Value.{Value}
@@ -122,7 +122,7 @@ spans d first ps last play is_last q has =
     let on = on_one_line d first ps q parts.3 has in
     let there = last_is_there first ps in
     let on_last : line_of d last ≡ line_of d first.square = ap (line_of d) (is_last ∙ sym there.2) ∙ on_one_line d first ps there.0 parts.3 there.1 in
-    let low = behind_first first ps q parts.2 has in
+    let low = after_first first ps q parts.2 has in
     let high = before_last first ps q parts.2 has in (
       on,
       place_follows d first.square q.square (sym on) low,

@@ -53,10 +53,10 @@ back_agree e a b line place first end on upto same back =
 ahead_agree : (e : Dir) (a b : List (Option Tile)) (line place first end : ℕ) → first ≤ place → AgreeAround e line first end a b
     → IsEndOn (occupied_on e a line) place end → IsEndOn (occupied_on e b line) place end
 ahead_agree e a b line place first end from same ahead =
-    let high = ahead.behind in
+    let high = ahead.following in
     let inside = ahead.inside in
     record {
-      behind = high;
+      following = high;
       inside = inside;
       filled = λ k above below. sym (ap is_some (same k (omega arith) (omega arith) (omega arith))) ∙ ahead.filled k above below;
       after = λ more. sym (ap is_some (same end more (omega arith) (omega arith))) ∙ ahead.after more;
@@ -84,7 +84,7 @@ module _ (e : Dir) (a b : List (Option Tile)) (square first end : ℕ) (size_a :
   on_second : IsRunWith b square shared
   on_second =
       let low = back.not_after in
-      let high = ahead.behind in
+      let high = ahead.following in
       let in_place = place_below e square on in
       run_with_is b e square first end size_b on
       (back_agree e a b (line_of e square) (place_of e square) first end in_place (omega arith) same back)
@@ -94,7 +94,7 @@ module _ (e : Dir) (a b : List (Option Tile)) (square first end : ℕ) (size_a :
   same_along : (k : ℕ) → k < end - first → tile_at a (along e shared.start k) ≡ tile_at b (along e shared.start k)
   same_along k below =
       let low = back.not_after in
-      let high = ahead.behind in
+      let high = ahead.following in
       let inside = ahead.inside in
       let line = line_of e square in
       let in_line = line_below e square on in
@@ -193,7 +193,7 @@ module _ (rules : Rules) (words : List (List ℕ)) (d : Dir) (before after : Lis
   outside : line_of (other_dir d) s ≡ line → from ≤ place_of (other_dir d) s → place_of (other_dir d) s < to → ⊥
   outside on low high =
       let not_after = back.not_after in
-      let behind = ahead.behind in
+      let following = ahead.following in
       ⊎_elim (λ (h : place_of (other_dir d) s + 1 < first). omega arith) (λ (h : end < place_of (other_dir d) s). omega arith) (beyond on)
 
   same_here : tile_at before s ≡ tile_at after s
@@ -216,7 +216,7 @@ module _ (rules : Rules) (words : List (List ℕ)) (d : Dir) (before after : Lis
       let k = place_of e s in
       let in_place = place_below e s below in
       let not_after = back.not_after in
-      let behind = ahead.behind in
+      let following = ahead.following in
       ⊎_elim
       (λ (lt : k + 1 < first).
       let none : occupied_on e before (line_of e s) (first - 1) ≡ false =

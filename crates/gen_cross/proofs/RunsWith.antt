@@ -26,7 +26,7 @@ run_with_tile board d square first end size on back ahead t =
     let place = place_of d square in
     let after = with_tile board square (Some t) in
     let low = back.not_after in
-    let high = ahead.behind in
+    let high = ahead.following in
     let inside = ahead.inside in
     let in_line = line_below d square on in
     let in_place = place_below d square on in
@@ -58,7 +58,7 @@ pub run_with_is : (board : List (Option Tile)) (d : Dir) (square first end : ℕ
     → (run : Run) → run.start ≡ square_at d (line_of d square) first → run.dir ≡ d → run.len ≡ end - first → IsRunWith board square run
 run_with_is board d square first end size on back ahead run at along as_long =
     let low = back.not_after in
-    let high = ahead.behind in
+    let high = ahead.following in
     let inside = ahead.inside in
     let place = place_of-square_at d (line_of d square) first (line_below d square on) (omega arith) in
     let made : Run = record { start = square_at d (line_of d square) first; dir = d; len = end - first } in

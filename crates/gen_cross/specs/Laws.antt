@@ -12,8 +12,8 @@ use Rattle.gen_cross.specs.declared.crosses.Cross.{Cross}
 use Rattle.gen_cross.specs.Values.{value_at, IsRight}
 
 -- a mask has the letter that a tile shows exactly when the tile's cross words are listed, whether it is a blank or not
-abbrev pub MasksTellWords : Type 0
-MasksTellWords =
+abbrev pub MasksGiveWords : Type 0
+MasksGiveWords =
     (rules : Rules) (words : List (List ℕ)) (board : List (Option Tile)) (cross : Cross) → length board ≡ SQUARES → IsRight rules words board cross
     → (d : Dir) (square : ℕ) (tile : Tile) → square < SQUARES → tile_at board square ≡ None
     → (slice_index_or (value_at cross d square).mask tile.shown.index false ≡ true) ↔ All (Contains words) (cross_words (other_dir d) board square tile)
@@ -25,8 +25,8 @@ score_by rules cross d board square tile =
     else ((value_at cross d square).side + points_of rules tile.kind * letter_factor (premium_at rules square)) * word_factor (premium_at rules square)
 
 -- and that is the score by the rules
-abbrev pub SidesTellScores : Type 0
-SidesTellScores =
+abbrev pub SidesGiveScores : Type 0
+SidesGiveScores =
     (rules : Rules) (words : List (List ℕ)) (board : List (Option Tile)) (cross : Cross) → length board ≡ SQUARES → IsRight rules words board cross
     → (d : Dir) (square : ℕ) (tile : Tile) → square < SQUARES → tile_at board square ≡ None
     → cross_score rules (other_dir d) board square tile ≡ score_by rules cross d board square tile

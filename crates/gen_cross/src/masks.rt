@@ -32,13 +32,13 @@ pub fn mask_of<L: PathLex>(board: &Board, lex: &L, square: Square, run: &Run) ->
         first,
         end: place,
     };
-    let behind = Stretch {
+    let following = Stretch {
         dir,
         line,
         first: place + 1,
         end: first + run.len,
     };
-    letters_between(board, lex, &before, &behind)
+    letters_between(board, lex, &before, &following)
 }
 
 /// The letters that, put between two stretches, make a word of the lexicon. The word is read backwards, so the labels after the
@@ -47,17 +47,17 @@ fn letters_between<L: PathLex>(
     board: &Board,
     lex: &L,
     before: &Stretch,
-    behind: &Stretch,
+    following: &Stretch,
 ) -> [bool; LETTERS]
     ensures { (letter : ℕ) → letter < 26
-        → slice_index_or result letter false ≡ L.language lex.now (labels_of board.now behind.now ++ ((letter + 1) ∷ labels_of board.now before.now)) }
+        → slice_index_or result letter false ≡ L.language lex.now (labels_of board.now following.now ++ ((letter + 1) ∷ labels_of board.now before.now)) }
 {
     let mut letters = [false; LETTERS];
     let whole = Step {
         accepts: false,
         next: Some(lex.root()),
     };
-    let Some(at) = walk_back(board, lex, whole, behind) else {
+    let Some(at) = walk_back(board, lex, whole, following) else {
         return letters;
     };
     for letter in 0..LETTERS {

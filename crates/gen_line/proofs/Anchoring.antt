@@ -63,7 +63,7 @@ pub walk_written : (h : ℕ) (x : List ℕ) → h < 15 → length x ≡ 15 → f
 unfolding finish_left
 walk_written h [] inside size = absurd (omega arith)
 walk_written h (e ∷ os) inside size =
-    let behind : length (drop h os) ≡ 14 - h = omega (arith, length-drop h os) in
+    let following : length (drop h os) ≡ 14 - h = omega (arith, length-drop h os) in
     let before : length (take h os) ≡ h = length-take-le h os (omega arith) in
     let parts : 15 ≡ h + suc (14 - h) = omega arith in
     let front : List ℕ = back (take h os) (e ∷ []) in
@@ -72,6 +72,6 @@ walk_written h (e ∷ os) inside size =
     let started : put (zeros 15) h e ≡ zeros h ++ e ∷ zeros (14 - h) = ap (λ zs. put zs h e) empty ∙ put-at (zeros h) h e (zeros (14 - h)) (sym (length-zeros h)) in
     ap (λ y. finish_left h h y os) started
     ∙ left-written h h (e ∷ zeros (14 - h)) os (omega arith)
-    ∙ ap (λ y. finish_right (h + 1) y (drop h os)) (back-append (take h os) (e ∷ []) (zeros (14 - h)) ∙ ap (λ n. front ++ zeros n) (sym behind))
+    ∙ ap (λ y. finish_right (h + 1) y (drop h os)) (back-append (take h os) (e ∷ []) (zeros (14 - h)) ∙ ap (λ n. front ++ zeros n) (sym following))
     ∙ right-written front (h + 1) (drop h os) at
     ∙ sym (back-append (take h os) (e ∷ []) (drop h os))

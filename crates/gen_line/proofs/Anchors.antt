@@ -8,7 +8,7 @@ use Rattle.gen_line.specs.declared.tiles.Tiles.{Tiles}
 use Rattle.gen_line.specs.Entries.{label_of_entry}
 use Rattle.gen_line.specs.Cells.{cell_at}
 use Rattle.gen_line.specs.Model.{join_range, zeros, after, longer, may, less, one_try, tries, leaf, right, starts_free, turn, left, left_of, rest_of_anchor, cell_moves, unwalk, line_moves}
-use Rattle.gen_line.specs.Walk.{finish_left, gives_one_left, gives_tries_left, gives_cell, gives_anchor, gives_behind, none_put, Every}
+use Rattle.gen_line.specs.Walk.{finish_left, gives_one_left, gives_tries_left, gives_cell, gives_anchor, gives_after, none_put, Every}
 use Rattle.gen_line.proofs.Walks.{map-join, join-same}
 use Rattle.gen_line.proofs.LeftWalks.{length-left_of}
 use Rattle.gen_line.proofs.Anchoring.{walk_written}
@@ -127,16 +127,16 @@ unfolding gives_anchor
 anchor_not g line tiles h m e not =
     ap (gives_cell g line h h tiles) e ∙ ap (λ b. if b then gives_tries_left g line h h m tiles else []) not
 
-pub behind_old : (g : List ℕ → Bool) (line : List Cell) (last : ℕ) (tiles : Tiles) (h a : ℕ) → cell_at line h ≡ Old a → gives_behind g line last tiles h ≡ []
-unfolding gives_behind
-behind_old g line last tiles h a e = ap (gives_cell g line last h tiles) e
+pub after_old : (g : List ℕ → Bool) (line : List Cell) (last : ℕ) (tiles : Tiles) (h a : ℕ) → cell_at line h ≡ Old a → gives_after g line last tiles h ≡ []
+unfolding gives_after
+after_old g line last tiles h a e = ap (gives_cell g line last h tiles) e
 
-pub behind_not : (g : List ℕ → Bool) (line : List Cell) (last : ℕ) (tiles : Tiles) (h : ℕ) (m : Open) → cell_at line h ≡ Free m → m.anchor ≡ false → gives_behind g line last tiles h ≡ []
-unfolding gives_behind
-behind_not g line last tiles h m e not =
+pub after_not : (g : List ℕ → Bool) (line : List Cell) (last : ℕ) (tiles : Tiles) (h : ℕ) (m : Open) → cell_at line h ≡ Free m → m.anchor ≡ false → gives_after g line last tiles h ≡ []
+unfolding gives_after
+after_not g line last tiles h m e not =
     ap (gives_cell g line last h tiles) e ∙ ap (λ b. if b then gives_tries_left g line last h m tiles else []) not
 
-pub behind_is : (g : List ℕ → Bool) (line : List Cell) (last : ℕ) (tiles : Tiles) (h : ℕ) (m : Open) → cell_at line h ≡ Free m → m.anchor ≡ true → gives_behind g line last tiles h ≡ gives_tries_left g line last h m tiles
-unfolding gives_behind
-behind_is g line last tiles h m e anchor =
+pub after_is : (g : List ℕ → Bool) (line : List Cell) (last : ℕ) (tiles : Tiles) (h : ℕ) (m : Open) → cell_at line h ≡ Free m → m.anchor ≡ true → gives_after g line last tiles h ≡ gives_tries_left g line last h m tiles
+unfolding gives_after
+after_is g line last tiles h m e anchor =
     ap (gives_cell g line last h tiles) e ∙ ap (λ b. if b then gives_tries_left g line last h m tiles else []) anchor

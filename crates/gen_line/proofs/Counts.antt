@@ -10,7 +10,7 @@ use Rattle.gen_line.specs.declared.cells.Cell.TheVariants.{Old, Free}
 use Rattle.gen_line.specs.declared.cells.Open.{Open}
 use Rattle.gen_line.specs.Entries.{label_of_entry}
 use Rattle.gen_line.specs.Model.{join_range, zeros, after, longer, may, less, one_try, tries, leaf, right, starts_free, turn, left}
-use Rattle.gen_line.proofs.Tests.{same, fits_right, fits_turn, behind_zeros, fits_left, Each}
+use Rattle.gen_line.proofs.Tests.{same, fits_right, fits_turn, after_zeros, fits_left, Each}
 
 -- ---- tallies
 
@@ -192,13 +192,13 @@ each-turn g cs rack x =
 
 -- ---- to the left
 
-pub each-zeros : (n : ℕ) (f : List ℕ → Bool) (xs : List (List ℕ)) → Each f xs → Each (behind_zeros n f) (map (λ os. zeros n ++ os) xs)
+pub each-zeros : (n : ℕ) (f : List ℕ → Bool) (xs : List (List ℕ)) → Each f xs → Each (after_zeros n f) (map (λ os. zeros n ++ os) xs)
 each-zeros zero f xs each x = ap (tally (same x)) (map-id xs) ∙ each x
 each-zeros (suc n) f xs each [] = ap (tally (same [])) (sym (map-map (λ os. 0 ∷ os) (λ os. zeros n ++ os) xs)) ∙ tally-front_nil 0 (map (λ os. zeros n ++ os) xs)
 each-zeros (suc n) f xs each (e ∷ x) =
     ap (tally (same (e ∷ x))) (sym (map-map (λ os. 0 ∷ os) (λ os. zeros n ++ os) xs))
     ∙ tally-front e 0 x (map (λ os. zeros n ++ os) xs)
-    ∙ rw (each-zeros n f xs each x) (sym (once-and (e == 0) (behind_zeros n f x)))
+    ∙ rw (each-zeros n f xs each x) (sym (once-and (e == 0) (after_zeros n f x)))
 
 -- lists that are barred, or not
 unless : (bar : Bool) (q : List ℕ → Bool) (xs : List (List ℕ)) (a b c : Bool) → tally q xs ≡ once (a && (b && c))
@@ -223,7 +223,7 @@ each-left g (Free m ∷ ls) cs rack [] =
     omega arith)
 each-left g (Free m ∷ ls) cs rack (e ∷ os) =
     either (same (e ∷ os)) (map (λ t. zeros (suc (length ls)) ++ t) (turn g cs rack)) (if m.anchor then [] else tries m rack (λ d. left (after g (label_of_entry d)) ls cs (less rack d)))
-    (e == 0) (behind_zeros (length ls) (fits_turn g cs rack) os) ((not m.anchor && (nat_lt e 53 && may m rack e)) && fits_left (after g (label_of_entry e)) ls cs (less rack e) os)
+    (e == 0) (after_zeros (length ls) (fits_turn g cs rack) os) ((not m.anchor && (nat_lt e 53 && may m rack e)) && fits_left (after g (label_of_entry e)) ls cs (less rack e) os)
     (each-zeros (suc (length ls)) (fits_turn g cs rack) (turn g cs rack) (each-turn g cs rack) (e ∷ os))
     (unless m.anchor (same (e ∷ os)) (tries m rack (λ d. left (after g (label_of_entry d)) ls cs (less rack d))) (not (e == 0)) (nat_lt e 53 && may m rack e) (fits_left (after g (label_of_entry e)) ls cs (less rack e) os)
     (tries-each m rack (λ d. left (after g (label_of_entry d)) ls cs (less rack d)) e os (fits_left (after g (label_of_entry e)) ls cs (less rack e) os)

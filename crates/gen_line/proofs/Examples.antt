@@ -5,9 +5,9 @@ use Rattle.std.proofs.lemmas.Bool.{agree_below_at, or_cases, eqb-true, le-ltb, n
 use Rattle.gen_line.specs.declared.cells.Cell.{Cell}
 use Rattle.gen_line.specs.declared.cells.Cell.TheVariants.{Old, Free}
 use Rattle.gen_line.specs.Cells.{cell_at, cell_ok, full_on}
-use Rattle.gen_line.specs.Moves.{IsMove, AreSplits, back, behind_mark}
+use Rattle.gen_line.specs.Moves.{IsMove, AreSplits, back, after_mark}
 use Rattle.gen_line.specs.Model.{right, turn, left, tries, may, less, left_of, line_moves}
-use Rattle.gen_line.specs.Walk.{behind_moves, gives_behind, gives_tries_left, gives_one_left, finish_left, finish_right}
+use Rattle.gen_line.specs.Walk.{after_moves, gives_after, gives_tries_left, gives_one_left, finish_left, finish_right}
 use Rattle.gen_line.proofs.Tests.{same}
 use Rattle.gen_line.proofs.Joins.{rack_ok-uses}
 use Rattle.gen_line.proofs.Lines.{back-size}
@@ -69,13 +69,13 @@ front_hook = refl
 
 -- .. by the walk that begins with the T after that anchor, which is the first letter of what is read from the right, and finds
 -- nothing if no string begins with it
-behind_hook : behind_moves (λ string. paths_of_at (20 ∷ string)) old_t 7 rack_a 6 ≡ a_before ∷ []
-unfolding gives_behind gives_tries_left gives_one_left left right turn tries may less left_of finish_left finish_right
-behind_hook = refl
+after_hook : after_moves (λ string. paths_of_at (20 ∷ string)) old_t 7 rack_a 6 ≡ a_before ∷ []
+unfolding gives_after gives_tries_left gives_one_left left right turn tries may less left_of finish_left finish_right
+after_hook = refl
 
-behind_other : behind_moves (λ string. paths_of_at (24 ∷ string)) old_t 7 rack_a 6 ≡ []
-unfolding gives_behind gives_tries_left gives_one_left left right turn tries may less left_of finish_left finish_right
-behind_other = refl
+after_other : after_moves (λ string. paths_of_at (24 ∷ string)) old_t 7 rack_a 6 ≡ []
+unfolding gives_after gives_tries_left gives_one_left left right turn tries may less left_of finish_left finish_right
+after_other = refl
 
 -- .. and so does a blank
 blank_hook : line_moves paths_of_at old_t rack_blank ≡ (replicate 6 0 ++ 2 ∷ replicate 8 0) ∷ []
@@ -159,6 +159,6 @@ paths_are_splits (a ∷ []) (b ∷ rest) some all = no_other ((a == 1) && ((b ==
 paths_are_splits (a ∷ b ∷ []) [] some all = no_mark a b [] (all 1 0 (omega arith))
 paths_are_splits (a ∷ b ∷ []) (c ∷ rest) some all = no_mark a b (0 ∷ c ∷ rest) (all 1 0 (omega arith))
 paths_are_splits (a ∷ b ∷ c ∷ ls) rest some all =
-    no_mark a b (c ∷ (ls ++ behind_mark rest)) (all 1 0 (omega arith))
+    no_mark a b (c ∷ (ls ++ after_mark rest)) (all 1 0 (omega arith))
     ∙ and_right (b == 1) ((a == 20) && false) (and_right (a == 20) false refl)
     ∙ sym (too_long (back ls (c ∷ b ∷ a ∷ rest)) (omega (arith, back-size ls (c ∷ b ∷ a ∷ rest))))

@@ -10,7 +10,7 @@ use Rattle.gen_line.specs.Entries.{label_of_entry}
 use Rattle.gen_line.specs.Cells.{cell_at}
 use Rattle.gen_line.specs.Moves.{back}
 use Rattle.gen_line.specs.Model.{after, may, less, tries, left_of, rest_of_anchor, cell_moves, unwalk, line_moves}
-use Rattle.gen_line.proofs.Tests.{same, fits_turn, behind_zeros, fits_left, Each, cell_fits, left_entries, walk, owes}
+use Rattle.gen_line.proofs.Tests.{same, fits_turn, after_zeros, fits_left, Each, cell_fits, left_entries, walk, owes}
 use Rattle.gen_line.proofs.Meaning.{shape, rack_ok, no_bar, at_anchor}
 use Rattle.gen_line.proofs.Counts.{tries-nil, tries-each, each-left, same-true}
 use Rattle.gen_line.proofs.Joins.{same-self, any_of, each-join, each-map}
@@ -103,12 +103,12 @@ undo h x y below size =
 
 -- ---- the number of entries of a walk
 
-behind_zeros-size : (n : ℕ) (f : List ℕ → Bool) (size : ℕ) → ((t : List ℕ) → f t ≡ true → length t ≡ size)
-    → (os : List ℕ) → behind_zeros n f os ≡ true → length os ≡ n + size
-behind_zeros-size zero f size h os e = h os e ∙ omega arith
-behind_zeros-size (suc n) f size h [] e = absurd (false≢true e)
-behind_zeros-size (suc n) f size h (d ∷ os) e =
-    let rest = behind_zeros-size n f size h os (and_parts (d == 0) (behind_zeros n f os) e).1 in omega arith
+after_zeros-size : (n : ℕ) (f : List ℕ → Bool) (size : ℕ) → ((t : List ℕ) → f t ≡ true → length t ≡ size)
+    → (os : List ℕ) → after_zeros n f os ≡ true → length os ≡ n + size
+after_zeros-size zero f size h os e = h os e ∙ omega arith
+after_zeros-size (suc n) f size h [] e = absurd (false≢true e)
+after_zeros-size (suc n) f size h (d ∷ os) e =
+    let rest = after_zeros-size n f size h os (and_parts (d == 0) (after_zeros n f os) e).1 in omega arith
 
 fits_turn-size : (g : List ℕ → Bool) (cs : List Cell) (rack os : List ℕ) → fits_turn g cs rack os ≡ true → length os ≡ length cs
 fits_turn-size g cs rack os e =
@@ -125,10 +125,10 @@ fits_left-size g (Free m ∷ ls) cs rack [] e = absurd (false≢true e)
 fits_left-size g (Free m ∷ ls) cs rack (d ∷ os) e = by (d == 0) e (fits_left-size (after g (label_of_entry d)) ls cs (less rack d) os)
   where
     by : (b : Bool)
-        → (if b then behind_zeros (length ls) (fits_turn g cs rack) os else (not m.anchor && (nat_lt d 53 && may m rack d)) && fits_left (after g (label_of_entry d)) ls cs (less rack d) os) ≡ true
+        → (if b then after_zeros (length ls) (fits_turn g cs rack) os else (not m.anchor && (nat_lt d 53 && may m rack d)) && fits_left (after g (label_of_entry d)) ls cs (less rack d) os) ≡ true
         → (fits_left (after g (label_of_entry d)) ls cs (less rack d) os ≡ true → length os ≡ length ls + length cs)
         → suc (length os) ≡ suc (length ls) + length cs
-    by true t h = let rest = behind_zeros-size (length ls) (fits_turn g cs rack) (length cs) (fits_turn-size g cs rack) os t in omega arith
+    by true t h = let rest = after_zeros-size (length ls) (fits_turn g cs rack) (length cs) (fits_turn-size g cs rack) os t in omega arith
     by false t h =
         let rest = h (and_parts (not m.anchor && (nat_lt d 53 && may m rack d)) (fits_left (after g (label_of_entry d)) ls cs (less rack d) os) t).1 in omega arith
 

@@ -5,9 +5,9 @@ use Rattle.std.proofs.Math.Bool.{and-true, and_assoc}
 use Rattle.gen_line.specs.declared.cells.Cell.{Cell}
 use Rattle.gen_line.specs.declared.cells.Cell.TheVariants.{Old, Free}
 use Rattle.gen_line.specs.Entries.{letter_of_entry, label_of_entry, kind_of_entry}
-use Rattle.gen_line.specs.Moves.{behind_mark}
+use Rattle.gen_line.specs.Moves.{after_mark}
 use Rattle.gen_line.specs.Model.{zeros, after, longer, may, less, starts_free}
-use Rattle.gen_line.proofs.Tests.{same, fits_right, fits_turn, behind_zeros, fits_left}
+use Rattle.gen_line.proofs.Tests.{same, fits_right, fits_turn, after_zeros, fits_left}
 use Rattle.gen_line.proofs.Meaning.{word, shape, rack_ok, rack_after, no_bar, at_anchor}
 
 -- entries of 0 take no tile: the rack has them, and stays
@@ -76,13 +76,13 @@ none_or : (a b : Bool) → b ≡ false → (a || b) ≡ a
 none_or true b e = refl
 none_or false b e = e
 
-pub fits_turn-is : (g : List ℕ → Bool) (cs : List Cell) (rack ys : List ℕ) → fits_turn g cs rack ys ≡ (g (behind_mark (word cs ys)) && (shape no_bar cs ys && rack_ok rack ys))
+pub fits_turn-is : (g : List ℕ → Bool) (cs : List Cell) (rack ys : List ℕ) → fits_turn g cs rack ys ≡ (g (after_mark (word cs ys)) && (shape no_bar cs ys && rack_ok rack ys))
 unfolding fits_turn
 fits_turn-is g cs rack ys =
     rw (fits_right-is (longer (after g 0)) cs rack ys) (by cs ys)
   where
     by : (cs : List Cell) (ys : List ℕ) → (((starts_free cs && g []) && same ys (zeros (length cs))) || (longer (after g 0) (word cs ys) && (shape no_bar cs ys && rack_ok rack ys)))
-        ≡ (g (behind_mark (word cs ys)) && (shape no_bar cs ys && rack_ok rack ys))
+        ≡ (g (after_mark (word cs ys)) && (shape no_bar cs ys && rack_ok rack ys))
     by [] [] = none_or (g [] && true) false refl
     by [] (e ∷ ys) = none_or (g [] && false) false refl
     by (Old a ∷ cs) [] = and_none (g []) true
@@ -93,7 +93,7 @@ fits_turn-is g cs rack ys =
         at : (b : Bool) → ((g [] && (b && same ys (zeros (length cs)))) || (longer (after g 0) (if b then [] else label_of_entry e ∷ word cs ys)
             && ((if b then same ys (zeros (length cs)) else (nat_lt e 53 && slice_index_or m.mask (letter_of_entry e) false) && shape no_bar cs ys)
             && (if b then rack_ok rack ys else nat_lt 0 (slice_index rack (kind_of_entry e)) && rack_ok (less rack e) ys))))
-            ≡ (g (behind_mark (if b then [] else label_of_entry e ∷ word cs ys))
+            ≡ (g (after_mark (if b then [] else label_of_entry e ∷ word cs ys))
             && ((if b then same ys (zeros (length cs)) else (nat_lt e 53 && slice_index_or m.mask (letter_of_entry e) false) && shape no_bar cs ys)
             && (if b then rack_ok rack ys else nat_lt 0 (slice_index rack (kind_of_entry e)) && rack_ok (less rack e) ys)))
         at true =
@@ -103,11 +103,11 @@ fits_turn-is g cs rack ys =
 
 -- ---- to the left
 
-behind_zeros-append : (n : ℕ) (f : List ℕ → Bool) (xs ys : List ℕ) → length xs ≡ n → behind_zeros n f (xs ++ ys) ≡ (same xs (zeros n) && f ys)
-behind_zeros-append zero f [] ys e = refl
-behind_zeros-append zero f (x ∷ xs) ys e = absurd (omega arith)
-behind_zeros-append (suc n) f [] ys e = absurd (omega arith)
-behind_zeros-append (suc n) f (x ∷ xs) ys e = rw (behind_zeros-append n f xs ys (omega arith)) (sym (and_assoc (x == 0) (same xs (zeros n)) (f ys)))
+after_zeros-append : (n : ℕ) (f : List ℕ → Bool) (xs ys : List ℕ) → length xs ≡ n → after_zeros n f (xs ++ ys) ≡ (same xs (zeros n) && f ys)
+after_zeros-append zero f [] ys e = refl
+after_zeros-append zero f (x ∷ xs) ys e = absurd (omega arith)
+after_zeros-append (suc n) f [] ys e = absurd (omega arith)
+after_zeros-append (suc n) f (x ∷ xs) ys e = rw (after_zeros-append n f xs ys (omega arith)) (sym (and_assoc (x == 0) (same xs (zeros n)) (f ys)))
 
 shuffle_left : (open' low may_be has fits some goes : Bool)
     → ((open' && (low && (may_be && has))) && ((fits && some) && goes)) ≡ ((((open' && (low && may_be)) && fits) && (has && some)) && goes)
@@ -138,13 +138,13 @@ fits_left-is g (Free m ∷ ls) cs rack (e ∷ xs) ys size = by (e == 0) (omega a
     by : (b : Bool) → length xs ≡ length ls
         → fits_left (after g (label_of_entry e)) ls cs (less rack e) (xs ++ ys)
         ≡ ((shape at_anchor ls xs && rack_ok (less rack e) xs) && fits_turn (λ t. g (label_of_entry e ∷ (word ls xs ++ t))) cs (rack_after (less rack e) xs) ys)
-        → (if b then behind_zeros (length ls) (fits_turn g cs rack) (xs ++ ys)
+        → (if b then after_zeros (length ls) (fits_turn g cs rack) (xs ++ ys)
         else (not m.anchor && (nat_lt e 53 && (slice_index_or m.mask (letter_of_entry e) false && nat_lt 0 (slice_index rack (kind_of_entry e))))) && fits_left (after g (label_of_entry e)) ls cs (less rack e) (xs ++ ys))
         ≡ (((if b then same xs (zeros (length ls)) else (not m.anchor && (nat_lt e 53 && slice_index_or m.mask (letter_of_entry e) false)) && shape at_anchor ls xs)
         && (if b then rack_ok rack xs else nat_lt 0 (slice_index rack (kind_of_entry e)) && rack_ok (less rack e) xs))
         && fits_turn (λ t. g ((if b then [] else label_of_entry e ∷ word ls xs) ++ t)) cs (if b then rack_after rack xs else rack_after (less rack e) xs) ys)
     by true same_size h =
-        behind_zeros-append (length ls) (fits_turn g cs rack) xs ys same_size
+        after_zeros-append (length ls) (fits_turn g cs rack) xs ys same_size
         ∙ ⊎_elim
         (λ (z : same xs (zeros (length ls)) ≡ true).
         rw (z, rack_ok-zeros (length ls) rack xs z, (rack-zeros (length ls) rack xs z).1))
@@ -158,7 +158,7 @@ fits_left-is g (Free m ∷ ls) cs rack (e ∷ xs) ys size = by (e == 0) (omega a
 -- the whole: one path, the squares, the rack
 pub fits_left-means : (g : List ℕ → Bool) (ls cs : List Cell) (rack xs ys : List ℕ) → length xs ≡ length ls
     → fits_left g ls cs rack (xs ++ ys)
-    ≡ ((shape at_anchor ls xs && rack_ok rack xs) && (g (word ls xs ++ behind_mark (word cs ys)) && (shape no_bar cs ys && rack_ok (rack_after rack xs) ys)))
+    ≡ ((shape at_anchor ls xs && rack_ok rack xs) && (g (word ls xs ++ after_mark (word cs ys)) && (shape no_bar cs ys && rack_ok (rack_after rack xs) ys)))
 fits_left-means g ls cs rack xs ys size =
     fits_left-is g ls cs rack xs ys size
     ∙ ap (λ b. (shape at_anchor ls xs && rack_ok rack xs) && b) (fits_turn-is (λ t. g (word ls xs ++ t)) cs (rack_after rack xs) ys)

@@ -9,7 +9,7 @@ use Rattle.gen_line.specs.declared.cells.Cell.TheVariants.{Old, Free}
 use Rattle.gen_line.specs.declared.cells.Open.{Open}
 use Rattle.gen_line.specs.Entries.{letter_of_entry, label_of_entry, kind_of_entry}
 use Rattle.gen_line.specs.Cells.{cell_at, is_full, cell_ok, is_anchor_cell, full_on, labels}
-use Rattle.gen_line.specs.Moves.{IsMove, Labelled, behind_mark, AreSplits}
+use Rattle.gen_line.specs.Moves.{IsMove, Labelled, after_mark, AreSplits}
 use Rattle.gen_line.specs.Model.{after, may, less, left_of}
 use Rattle.gen_line.proofs.Tests.{left_entries, walk, fits_left, cell_fits, owes}
 use Rattle.gen_line.proofs.Meaning.{word, shape, rack_ok, rack_after, no_bar, at_anchor}
@@ -32,12 +32,12 @@ pub record Owed (g : List ℕ → Bool) (line : List Cell) (rack : List ℕ) (h 
   pub left : shape at_anchor (left_of line h) (left_entries y h) ≡ true
   pub right : shape no_bar (drop (h + 1) line) (drop (h + 1) y) ≡ true
   pub taken : rack_ok rack (walk h y) ≡ true
-  pub path : g (label_of_entry (get_or y h 0) ∷ (word (left_of line h) (left_entries y h) ++ behind_mark (word (drop (h + 1) line) (drop (h + 1) y)))) ≡ true
+  pub path : g (label_of_entry (get_or y h 0) ∷ (word (left_of line h) (left_entries y h) ++ after_mark (word (drop (h + 1) line) (drop (h + 1) y)))) ≡ true
 
 sides_fit : (g : List ℕ → Bool) (line : List Cell) (rack : List ℕ) (h : ℕ) (y : List ℕ)
     → fits_left g (left_of line h) (drop (h + 1) line) rack (left_entries y h ++ drop (h + 1) y)
     ≡ ((shape at_anchor (left_of line h) (left_entries y h) && rack_ok rack (left_entries y h))
-    && (g (word (left_of line h) (left_entries y h) ++ behind_mark (word (drop (h + 1) line) (drop (h + 1) y)))
+    && (g (word (left_of line h) (left_entries y h) ++ after_mark (word (drop (h + 1) line) (drop (h + 1) y)))
     && (shape no_bar (drop (h + 1) line) (drop (h + 1) y) && rack_ok (rack_after rack (left_entries y h)) (drop (h + 1) y))))
 sides_fit g line rack h y =
     fits_left-means g (left_of line h) (drop (h + 1) line) rack (left_entries y h) (drop (h + 1) y) (left_entries-size y h ∙ sym (left_of-size line h))
@@ -52,7 +52,7 @@ has_tile rack e = nat_lt 0 (get_or rack (kind_of_entry e) 0)
 -- whether the lexicon has the path of the entries around the anchor
 abbrev has_path : (List ℕ → Bool) → List Cell → ℕ → List ℕ → Bool
 has_path g line h y =
-    g (label_of_entry (get_or y h 0) ∷ (word (left_of line h) (left_entries y h) ++ behind_mark (word (drop (h + 1) line) (drop (h + 1) y))))
+    g (label_of_entry (get_or y h 0) ∷ (word (left_of line h) (left_entries y h) ++ after_mark (word (drop (h + 1) line) (drop (h + 1) y))))
 
 owed_free : (g : List ℕ → Bool) (line : List Cell) (rack : List ℕ) (h : ℕ) (y : List ℕ) (m : Open) → length y ≡ 15 → cell_at line h ≡ Free m
     → cell_fits g line h rack (Free m) (walk h y) ≡ true → Owed g line rack h y
@@ -138,9 +138,9 @@ pub record Around (line : List Cell) (y : List ℕ) (h first a b : ℕ) : Type 0
   pub full : (j : ℕ) → first ≤ j → j < h + 1 + b → full_on line y j ≡ true
   pub ok : (j : ℕ) → first ≤ j → j < h + 1 + b → cell_ok (cell_at line j) (get_or y j 0) ≡ true
   pub before : 0 < first → full_on line y (first - 1) ≡ false
-  pub behind : h + 1 + b < 15 → full_on line y (h + 1 + b) ≡ false
+  pub following : h + 1 + b < 15 → full_on line y (h + 1 + b) ≡ false
   pub none_before : (j : ℕ) → j < first → get_or y j 0 ≡ 0
-  pub none_behind : (j : ℕ) → h + 1 + b ≤ j → get_or y j 0 ≡ 0
+  pub none_after : (j : ℕ) → h + 1 + b ≤ j → get_or y j 0 ≡ 0
 
 pub around : (line : List Cell) (y : List ℕ) (h a b : ℕ) → h < 15 → length line ≡ 15 → full_on line y h ≡ true → cell_ok (cell_at line h) (get_or y h 0) ≡ true
     → Shaped at_anchor (left_of line h) (left_entries y h) a → Shaped no_bar (drop (h + 1) line) (drop (h + 1) y) b → Around line y h (h - a) a b
@@ -154,9 +154,9 @@ around line y h a b below size here_full here_ok l r =
       full = λ j low high. at_place is_full l.full r.full here_full j low high;
       ok = λ j low high. at_place cell_ok l.ok r.ok here_ok j low high;
       before = λ some. sym (left-at is_full line y h a (h - a - 1) (omega arith)) ∙ l.ends (omega arith);
-      behind = λ more. sym (right-at is_full line y (h + 1) b (h + 1 + b) refl) ∙ r.ends (omega arith);
+      following = λ more. sym (right-at is_full line y (h + 1) b (h + 1 + b) refl) ∙ r.ends (omega arith);
       none_before = λ j low. sym (left_entries-at y h (h - 1 - j) j (omega arith)) ∙ l.beyond (h - 1 - j) (omega arith);
-      none_behind = λ j low. ap (λ k. get_or y k 0) (let is : j ≡ h + 1 + (j - (h + 1)) = omega arith in is) ∙ sym (get_or-drop (h + 1) y (j - (h + 1)) 0) ∙ r.beyond (j - (h + 1)) (omega arith);
+      none_after = λ j low. ap (λ k. get_or y k 0) (let is : j ≡ h + 1 + (j - (h + 1)) = omega arith in is) ∙ sym (get_or-drop (h + 1) y (j - (h + 1)) 0) ∙ r.beyond (j - (h + 1)) (omega arith);
     }
   where
     at_place : (f : Cell → ℕ → Bool) → ((i : ℕ) → i < a → f (cell_at (left_of line h) i) (get_or (left_entries y h) i 0) ≡ true)
@@ -177,7 +177,7 @@ around line y h a b below size here_full here_ok l r =
 inside : (line : List Cell) (y : List ℕ) (h first a b i : ℕ) → Around line y h first a b → get_or y i 0 ≢ 0 → (first ≤ i) × (i < h + 1 + b)
 inside line y h first a b i s some = (
   ⊎_elim (λ (low : i < first). absurd (some (s.none_before i low))) (λ (low : first ≤ i). low) (cases_lt i first),
-  ⊎_elim (λ (high : i < h + 1 + b). high) (λ (high : h + 1 + b ≤ i). absurd (some (s.none_behind i high))) (cases_lt i (h + 1 + b)),
+  ⊎_elim (λ (high : i < h + 1 + b). high) (λ (high : h + 1 + b ≤ i). absurd (some (s.none_after i high))) (cases_lt i (h + 1 + b)),
 )
 
 -- and each of its places allows what lies there
@@ -200,7 +200,7 @@ move_around g listed splits line rack y h first a b labelled below o s left_word
     let y_size = o.size in
     let front = label_of_entry (get_or y h 0) ∷ spelt (left_of line h) (left_entries y h) a in
     let rest = spelt (drop (h + 1) line) (drop (h + 1) y) b in
-    let path : g (front ++ behind_mark rest) ≡ true = rw (left_word, right_word) at o.path in
+    let path : g (front ++ after_mark rest) ≡ true = rw (left_word, right_word) at o.path in
     let none_is_mark : All (λ k. 0 < k) front =
     All-cons (λ k. 0 < k) (label_of_entry (get_or y h 0)) (spelt (left_of line h) (left_entries y h) a) (omega arith) (spelt-positive line y h a labelled (omega arith)) in
     let end : first + (a + suc b) ≡ h + 1 + b = omega arith in
@@ -210,7 +210,7 @@ move_around g listed splits line rack y h first a b labelled below o s left_word
         inside = omega arith;
         filled = λ j low high. s.full j low (omega arith);
         before = s.before;
-        after = λ more. ap (full_on line y) end ∙ s.behind (omega arith);
+        after = λ more. ap (full_on line y) end ∙ s.following (omega arith);
       };
       allowed = λ i high. allows line y h first a b i s;
       within = λ i high some. let both = inside line y h first a b i s some in (both.0, omega arith);
@@ -333,7 +333,7 @@ move_owed_at g listed splits line rack y first len h a b n labelled m below is a
     All-cons (λ k. 0 < k) (label_of_entry e) (spelt (left_of line h) (left_entries y h) a) (omega arith) (spelt-positive line y h a labelled (omega arith)) in
     let stretch : a + suc b ≡ len = omega arith in
     let spells = whole_word line y n h first a b is left_sum (omega arith) (omega arith) ∙ ap (labels line y first) stretch in
-    let path : g (front ++ behind_mark rest) ≡ true = splits front rest (omega arith) none_is_mark ∙ ap listed spells ∙ m.word in
+    let path : g (front ++ after_mark rest) ≡ true = splits front rest (omega arith) none_is_mark ∙ ap listed spells ∙ m.word in
     record {
       size = m.size;
       square = n;

@@ -151,6 +151,6 @@ uses-walk k y h below =
     let here = uses-append k (get_or y h 0 ∷ []) (left_entries y h ++ drop (h + 1) y) in
     let sides = uses-append k (left_entries y h) (drop (h + 1) y) in
     let left = uses-left k y h (omega arith) in
-    let behind = ap (uses k) (drop_more y h 0 below) ∙ uses-append k (get_or y h 0 ∷ []) (drop (h + 1) y) in
+    let following = ap (uses k) (drop_more y h 0 below) ∙ uses-append k (get_or y h 0 ∷ []) (drop (h + 1) y) in
     let whole = sym (uses-append k (take h y) (drop h y)) ∙ ap (uses k) (take-append-drop h y) in
     omega arith

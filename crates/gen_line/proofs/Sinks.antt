@@ -75,14 +75,14 @@ took-refused Q add old xs new (Err why) refused h = h
 pub every-for : {P X : Type 0} (can : P → X → Type 0) (p q : P) (xs : List X) → q ≡ p → Every (can p) xs → Every (can q) xs
 every-for can p q xs e h = subst (λ r. Every (can r) xs) (sym e) h
 
-pub took-for : {P I X U E : Type 0} (tell : P → I → X → I) (p q : P) (old : I) (xs : List X) (new : I) (r : Result U E) → q ≡ p → Took (tell q) old xs new r → Took (tell p) old xs new r
-took-for tell p q old xs new r e h = subst (λ o. Took (tell o) old xs new r) e h
+pub took-for : {P I X U E : Type 0} (report : P → I → X → I) (p q : P) (old : I) (xs : List X) (new : I) (r : Result U E) → q ≡ p → Took (report q) old xs new r → Took (report p) old xs new r
+took-for report p q old xs new r e h = subst (λ o. Took (report o) old xs new r) e h
 
-pub front-for : {P I X : Type 0} (tell : P → I → X → I) (p q : P) (old : I) (xs : List X) (new : I) → q ≡ p → Front (tell q) old xs new → Front (tell p) old xs new
-front-for tell p q old xs new e h = subst (λ o. Front (tell o) old xs new) e h
+pub front-for : {P I X : Type 0} (report : P → I → X → I) (p q : P) (old : I) (xs : List X) (new : I) → q ≡ p → Front (report q) old xs new → Front (report p) old xs new
+front-for report p q old xs new e h = subst (λ o. Front (report o) old xs new) e h
 
-pub all-for : {P I X : Type 0} (tell : P → I → X → I) (p q : P) (old : I) (xs : List X) (new : I) → q ≡ p → new ≡ add_all (tell q) old xs → new ≡ add_all (tell p) old xs
-all-for tell p q old xs new e h = subst (λ o. new ≡ add_all (tell o) old xs) e h
+pub all-for : {P I X : Type 0} (report : P → I → X → I) (p q : P) (old : I) (xs : List X) (new : I) → q ≡ p → new ≡ add_all (report q) old xs → new ≡ add_all (report p) old xs
+all-for report p q old xs new e h = subst (λ o. new ≡ add_all (report o) old xs) e h
 
 -- ---- one list of a range after the others
 

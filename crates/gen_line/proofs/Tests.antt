@@ -30,10 +30,10 @@ unfoldable pub fits_turn : (List ℕ → Bool) → List Cell → List ℕ → Li
 fits_turn g cs rack os = ((starts_free cs && g []) && same os (zeros (length cs))) || fits_right (longer (after g 0)) cs rack os
 
 -- after a number of places without a new tile
-abbrev pub behind_zeros : ℕ → (List ℕ → Bool) → List ℕ → Bool
-behind_zeros zero f os = f os
-behind_zeros (suc n) f [] = false
-behind_zeros (suc n) f (e ∷ os) = (e == 0) && behind_zeros n f os
+abbrev pub after_zeros : ℕ → (List ℕ → Bool) → List ℕ → Bool
+after_zeros zero f os = f os
+after_zeros (suc n) f [] = false
+after_zeros (suc n) f (e ∷ os) = (e == 0) && after_zeros n f os
 
 -- the entries to the left, and then those to the right
 unfoldable pub fits_left : (List ℕ → Bool) → List Cell → List Cell → List ℕ → List ℕ → Bool
@@ -42,7 +42,7 @@ fits_left g (Old a ∷ ls) cs rack [] = false
 fits_left g (Old a ∷ ls) cs rack (e ∷ os) = (e == 0) && fits_left (after g a) ls cs rack os
 fits_left g (Free m ∷ ls) cs rack [] = false
 fits_left g (Free m ∷ ls) cs rack (e ∷ os) =
-    if e == 0 then behind_zeros (length ls) (fits_turn g cs rack) os
+    if e == 0 then after_zeros (length ls) (fits_turn g cs rack) os
     else (not m.anchor && (nat_lt e 53 && may m rack e)) && fits_left (after g (label_of_entry e)) ls cs (less rack e) os
 
 -- each thing of the set once, and no others

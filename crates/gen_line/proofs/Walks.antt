@@ -112,10 +112,10 @@ gives_right-old g line place a tiles inside e =
 pub gives_right-free : (g : List ℕ → Bool) (line : List Cell) (place : ℕ) (m : Open) (tiles : Tiles) → place < length line → cell_at line place ≡ Free m → gives_right g line place tiles ≡ gives_leaf (g []) tiles.fresh ++ gives_tries_right g line place m tiles
 unfolding right gives_tries_right gives_one_right tries
 gives_right-free g line place m tiles inside e =
-    let behind : List Cell = drop (place + 1) line in
+    let following : List Cell = drop (place + 1) line in
     ap (λ cs. map (finish_right place tiles.fresh) (right g cs tiles.rack)) (cells-at line place (Free m) inside e)
-    ∙ map-append (finish_right place tiles.fresh) (leaf (g []) (suc (length behind))) (join_range (one_try m tiles.rack (one_right_of g line place tiles.rack)) 1 52)
-    ∙ ap (λ xs. xs ++ map (finish_right place tiles.fresh) (join_range (one_try m tiles.rack (one_right_of g line place tiles.rack)) 1 52)) (leaf-lines (g []) (suc (length behind)) place tiles.fresh)
+    ∙ map-append (finish_right place tiles.fresh) (leaf (g []) (suc (length following))) (join_range (one_try m tiles.rack (one_right_of g line place tiles.rack)) 1 52)
+    ∙ ap (λ xs. xs ++ map (finish_right place tiles.fresh) (join_range (one_try m tiles.rack (one_right_of g line place tiles.rack)) 1 52)) (leaf-lines (g []) (suc (length following)) place tiles.fresh)
     ∙ ap (λ xs. gives_leaf (g []) tiles.fresh ++ xs) (map-join (finish_right place tiles.fresh) (one_try m tiles.rack (one_right_of g line place tiles.rack)) 1 52)
 
 pub right-old-dead : (g : List ℕ → Bool) (line : List Cell) (place a : ℕ) (tiles : Tiles) → place < length line → cell_at line place ≡ Old a → ((t : List ℕ) → after g a t ≡ false) → gives_right g line place tiles ≡ []

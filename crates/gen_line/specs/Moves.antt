@@ -29,11 +29,11 @@ back [] ys = ys
 back (x ∷ xs) ys = back xs (x ∷ ys)
 
 -- labels after a mark, if there are any
-abbrev pub behind_mark : List ℕ → List ℕ
-behind_mark [] = []
-behind_mark (l ∷ ls) = 0 ∷ l ∷ ls
+abbrev pub after_mark : List ℕ → List ℕ
+after_mark [] = []
+after_mark (l ∷ ls) = 0 ∷ l ∷ ls
 
 -- The paths of a word are those of its splits: a string of labels other than the mark, and others after a mark, are a path exactly
 -- when the labels backwards, and the rest after them, are a word.
 abbrev pub AreSplits : (List ℕ → Bool) → (List ℕ → Bool) → Type 0
-AreSplits g listed = (ls rest : List ℕ) → 0 < length ls → All (λ l. 0 < l) ls → g (ls ++ behind_mark rest) ≡ listed (back ls rest)
+AreSplits g listed = (ls rest : List ℕ) → 0 < length ls → All (λ l. 0 < l) ls → g (ls ++ after_mark rest) ≡ listed (back ls rest)

@@ -87,14 +87,14 @@ abbrev pub gives_cell : (List ℕ → Bool) → List Cell → ℕ → ℕ → Ti
 gives_cell g line last h tiles (Old a) = []
 gives_cell g line last h tiles (Free m) = if m.anchor then gives_tries_left g line last h m tiles else []
 
-unfoldable pub gives_behind : (List ℕ → Bool) → List Cell → ℕ → Tiles → ℕ → List (List ℕ)
-gives_behind g line last tiles h = gives_cell g line last h tiles (cell_at line h)
+unfoldable pub gives_after : (List ℕ → Bool) → List Cell → ℕ → Tiles → ℕ → List (List ℕ)
+gives_after g line last tiles h = gives_cell g line last h tiles (cell_at line h)
 
 unfoldable pub gives_anchor : (List ℕ → Bool) → List Cell → Tiles → ℕ → List (List ℕ)
 gives_anchor g line tiles h = gives_cell g line h h tiles (cell_at line h)
 
-abbrev pub behind_moves : (List ℕ → Bool) → List Cell → ℕ → List ℕ → ℕ → List (List ℕ)
-behind_moves g line last rack h = gives_behind g line last (none_put rack) h
+abbrev pub after_moves : (List ℕ → Bool) → List Cell → ℕ → List ℕ → ℕ → List (List ℕ)
+after_moves g line last rack h = gives_after g line last (none_put rack) h
 
 -- the moves of a line whose first covered anchor is a place
 abbrev pub anchor_moves : (List ℕ → Bool) → List Cell → List ℕ → ℕ → List (List ℕ)
@@ -128,4 +128,4 @@ MayGive can_take made_for sink moves = Every (can_take (made_for sink)) moves
 
 -- A sink was given some moves, or, if it refused, a front of them: it has what it had before, plus what each of them adds.
 abbrev pub Gave : {P I S X U E : Type 0} → (P → I → X → I) → (S → P) → (S → I) → S → List X → S → Result U E → Type 0
-Gave tell made_for items old moves new result = Took (tell (made_for old)) (items old) moves (items new) result
+Gave report made_for items old moves new result = Took (report (made_for old)) (items old) moves (items new) result

@@ -1,6 +1,6 @@
 //! The mark and the letters with which the strings of a lexicon continue, one after another.
 ghost use Rattle.std.specs.Prelude.{◌≡◌, ◌<◌, ◌≤◌, ◌+◌, ℕ, List, ◌∷◌, true, false, IfNone, IfSome};
-ghost use Rattle.lex_file.specs.Lexicons.{NoTail, IsLeft};
+ghost use Rattle.lex_file.specs.Lexicons.{NoTail, IsRemaining};
 ghost use Rattle.lex_file.specs.Walking.{IsOpen, strings};
 ghost use Rattle.gen_line.specs.Model.{shows};
 
@@ -42,7 +42,7 @@ pub fn next_letter<L: PathLex>(
     requires node { L.is_node lex.now node }
     requires low { 0 < from }
     requires high { from ≤ LABELS }
-    requires rest { IsLeft (L.is_rest lex.now) node from rest }
+    requires rest { IsRemaining (L.is_rest lex.now) node from rest }
     ensures none { IfNone result ((label : ℕ) → from ≤ label → shows free.now tiles.now.rack label ≡ true → NoTail (L.tail lex.now) node label) }
     ensures reached { IfSome result (λ on. from ≤ on.branch.label) }
     ensures passed { IfSome result (λ on. (label : ℕ) → from ≤ label → label < on.branch.label → shows free.now tiles.now.rack label ≡ true → NoTail (L.tail lex.now) node label) }
@@ -50,7 +50,7 @@ pub fn next_letter<L: PathLex>(
     ensures some { IfSome result (λ on. (t : List ℕ)
         → L.tail lex.now node (on.branch.label ∷ t) ≡ strings (L.tail lex.now) on.branch.step t) }
     ensures open { IfSome result (λ on. IsOpen (L.is_node lex.now) on.branch.step.next) }
-    ensures rest { IfSome result (λ on. IsLeft (L.is_rest lex.now) node (on.branch.label + 1) on.rest) }
+    ensures rest { IfSome result (λ on. IsRemaining (L.is_rest lex.now) node (on.branch.label + 1) on.rest) }
 {
     let mut next = from;
     let mut remaining = rest;

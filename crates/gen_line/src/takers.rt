@@ -29,7 +29,7 @@ pub trait Taker<S> {
     ghost can_take: { Self → Purpose → List ℕ → Type 0 };
 
     // What a sink has after one more move.
-    ghost tell: { Self → Purpose → Items → List ℕ → Items };
+    ghost report: { Self → Purpose → Items → List ℕ → Items };
 
     // Whether the sink may be refused memory.
     ghost grows: { Bool };
@@ -42,6 +42,6 @@ pub trait Taker<S> {
     fn take(&self, fresh: &[u8; SIDE], sink: &mut S) -> Result<(), NoMemory>
         requires { can_take self.now (made_for sink.old) fresh.now }
         ensures made_for { made_for sink.new ≡ made_for sink.old }
-        ensures took { Gave (tell self.now) made_for items sink.old (fresh.now ∷ []) sink.new result }
+        ensures took { Gave (report self.now) made_for items sink.old (fresh.now ∷ []) sink.new result }
         ensures steady { grows ≡ false → IsOk result };
 }

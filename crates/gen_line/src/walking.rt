@@ -3,7 +3,7 @@ ghost use Rattle.std.specs.Prelude.{◌≡◌, ◌<◌, ◌≤◌, ◌+◌, ◌&
 ghost use Rattle.ref_tiles.specs.declared.rulebook.TheConstants.{SIDE};
 ghost use Rattle.gen_line.specs.Model.{starts_free};
 ghost use Rattle.lex_file.specs.Walking.{IsOpen, strings};
-ghost use Rattle.gen_line.specs.Walk.{MayGive, Gave, gives_leaf, gives_right, gives_tries_right, gives_letter_right, gives_try_right, gives_turn, gives_left, gives_tries_left, gives_letter_left, gives_try_left, gives_behind, behind_moves};
+ghost use Rattle.gen_line.specs.Walk.{MayGive, Gave, gives_leaf, gives_right, gives_tries_right, gives_letter_right, gives_try_right, gives_turn, gives_left, gives_tries_left, gives_letter_left, gives_try_left, gives_after, after_moves};
 
 use crate::branches::{next_letter, pass_mark};
 use crate::cells::{Cell, Open};
@@ -43,7 +43,7 @@ impl<L: PathLex, T> LineWalk<'_, L, T> {
         T: Taker<S>,
         requires can { MayGive (T.can_take self.now.taker.now) T.made_for sink.old (gives_leaf is_move tiles.now.fresh) }
         ensures made_for { T.made_for sink.new ≡ T.made_for sink.old }
-        ensures took { Gave (T.tell self.now.taker.now) T.made_for T.items sink.old
+        ensures took { Gave (T.report self.now.taker.now) T.made_for T.items sink.old
             (gives_leaf is_move tiles.now.fresh) sink.new result }
         ensures steady { T.grows ≡ false → IsOk result }
     {
@@ -69,7 +69,7 @@ impl<L: PathLex, T> LineWalk<'_, L, T> {
         requires can { MayGive (T.can_take self.now.taker.now) T.made_for sink.old
             (gives_right (strings (L.tail self.now.lex.now) at) self.now.line.now place tiles.now) }
         ensures made_for { T.made_for sink.new ≡ T.made_for sink.old }
-        ensures took { Gave (T.tell self.now.taker.now) T.made_for T.items sink.old
+        ensures took { Gave (T.report self.now.taker.now) T.made_for T.items sink.old
             (gives_right (strings (L.tail self.now.lex.now) at) self.now.line.now place tiles.now) sink.new result }
         ensures steady { T.grows ≡ false → IsOk result }
     {
@@ -106,7 +106,7 @@ impl<L: PathLex, T> LineWalk<'_, L, T> {
         requires can { MayGive (T.can_take self.now.taker.now) T.made_for sink.old
             (gives_tries_right (strings (L.tail self.now.lex.now) at) self.now.line.now place free.now tiles.now) }
         ensures made_for { T.made_for sink.new ≡ T.made_for sink.old }
-        ensures took { Gave (T.tell self.now.taker.now) T.made_for T.items sink.old
+        ensures took { Gave (T.report self.now.taker.now) T.made_for T.items sink.old
             (gives_tries_right (strings (L.tail self.now.lex.now) at) self.now.line.now place free.now tiles.now) sink.new result }
         ensures steady { T.grows ≡ false → IsOk result }
     {
@@ -146,7 +146,7 @@ impl<L: PathLex, T> LineWalk<'_, L, T> {
         requires can { MayGive (T.can_take self.now.taker.now) T.made_for sink.old
             (gives_letter_right (strings (L.tail self.now.lex.now) next) self.now.line.now place free.now tiles.now label) }
         ensures made_for { T.made_for sink.new ≡ T.made_for sink.old }
-        ensures took { Gave (T.tell self.now.taker.now) T.made_for T.items sink.old
+        ensures took { Gave (T.report self.now.taker.now) T.made_for T.items sink.old
             (gives_letter_right (strings (L.tail self.now.lex.now) next) self.now.line.now place free.now tiles.now label) sink.new result }
         ensures steady { T.grows ≡ false → IsOk result }
     {
@@ -175,7 +175,7 @@ impl<L: PathLex, T> LineWalk<'_, L, T> {
         requires can { MayGive (T.can_take self.now.taker.now) T.made_for sink.old
             (gives_try_right (strings (L.tail self.now.lex.now) next) self.now.line.now place free.now tiles.now entry) }
         ensures made_for { T.made_for sink.new ≡ T.made_for sink.old }
-        ensures took { Gave (T.tell self.now.taker.now) T.made_for T.items sink.old
+        ensures took { Gave (T.report self.now.taker.now) T.made_for T.items sink.old
             (gives_try_right (strings (L.tail self.now.lex.now) next) self.now.line.now place free.now tiles.now entry) sink.new result }
         ensures steady { T.grows ≡ false → IsOk result }
     {
@@ -197,16 +197,16 @@ impl<L: PathLex, T> LineWalk<'_, L, T> {
         requires can { MayGive (T.can_take self.now.taker.now) T.made_for sink.old
             (gives_turn (strings (L.tail self.now.lex.now) at) self.now.line.now self.now.last tiles.now) }
         ensures made_for { T.made_for sink.new ≡ T.made_for sink.old }
-        ensures took { Gave (T.tell self.now.taker.now) T.made_for T.items sink.old
+        ensures took { Gave (T.report self.now.taker.now) T.made_for T.items sink.old
             (gives_turn (strings (L.tail self.now.lex.now) at) self.now.line.now self.now.last tiles.now) sink.new result }
         ensures steady { T.grows ≡ false → IsOk result }
     {
         self.offer(ends_at(self.line, self.last + 1, at.accepts), tiles, sink)?;
         match pass_mark(self.lex, at) {
-            Some(behind) => {
+            Some(following) => {
                 let onward = Step {
                     accepts: false,
-                    next: behind.next,
+                    next: following.next,
                 };
                 self.right(onward, self.last + 1, tiles, sink)
             }
@@ -231,7 +231,7 @@ impl<L: PathLex, T> LineWalk<'_, L, T> {
         requires can { MayGive (T.can_take self.now.taker.now) T.made_for sink.old
             (gives_left (strings (L.tail self.now.lex.now) at) self.now.line.now self.now.last places tiles.now) }
         ensures made_for { T.made_for sink.new ≡ T.made_for sink.old }
-        ensures took { Gave (T.tell self.now.taker.now) T.made_for T.items sink.old
+        ensures took { Gave (T.report self.now.taker.now) T.made_for T.items sink.old
             (gives_left (strings (L.tail self.now.lex.now) at) self.now.line.now self.now.last places tiles.now) sink.new result }
         ensures steady { T.grows ≡ false → IsOk result }
     {
@@ -272,7 +272,7 @@ impl<L: PathLex, T> LineWalk<'_, L, T> {
         requires can { MayGive (T.can_take self.now.taker.now) T.made_for sink.old
             (gives_tries_left (strings (L.tail self.now.lex.now) at) self.now.line.now self.now.last place free.now tiles.now) }
         ensures made_for { T.made_for sink.new ≡ T.made_for sink.old }
-        ensures took { Gave (T.tell self.now.taker.now) T.made_for T.items sink.old
+        ensures took { Gave (T.report self.now.taker.now) T.made_for T.items sink.old
             (gives_tries_left (strings (L.tail self.now.lex.now) at) self.now.line.now self.now.last place free.now tiles.now)
             sink.new result }
         ensures steady { T.grows ≡ false → IsOk result }
@@ -314,7 +314,7 @@ impl<L: PathLex, T> LineWalk<'_, L, T> {
         requires can { MayGive (T.can_take self.now.taker.now) T.made_for sink.old
             (gives_letter_left (strings (L.tail self.now.lex.now) next) self.now.line.now self.now.last place free.now tiles.now label) }
         ensures made_for { T.made_for sink.new ≡ T.made_for sink.old }
-        ensures took { Gave (T.tell self.now.taker.now) T.made_for T.items sink.old
+        ensures took { Gave (T.report self.now.taker.now) T.made_for T.items sink.old
             (gives_letter_left (strings (L.tail self.now.lex.now) next) self.now.line.now self.now.last place free.now tiles.now label)
             sink.new result }
         ensures steady { T.grows ≡ false → IsOk result }
@@ -345,7 +345,7 @@ impl<L: PathLex, T> LineWalk<'_, L, T> {
         requires can { MayGive (T.can_take self.now.taker.now) T.made_for sink.old
             (gives_try_left (strings (L.tail self.now.lex.now) next) self.now.line.now self.now.last place free.now tiles.now entry) }
         ensures made_for { T.made_for sink.new ≡ T.made_for sink.old }
-        ensures took { Gave (T.tell self.now.taker.now) T.made_for T.items sink.old
+        ensures took { Gave (T.report self.now.taker.now) T.made_for T.items sink.old
             (gives_try_left (strings (L.tail self.now.lex.now) next) self.now.line.now self.now.last place free.now tiles.now entry)
             sink.new result }
         ensures steady { T.grows ≡ false → IsOk result }
@@ -373,10 +373,10 @@ impl<L: PathLex, T> LineWalk<'_, L, T> {
         requires last { self.now.last < SIDE }
         requires anchor { anchor ≤ self.now.last }
         requires can { MayGive (T.can_take self.now.taker.now) T.made_for sink.old
-            (gives_behind (strings (L.tail self.now.lex.now) at) self.now.line.now self.now.last tiles.now anchor) }
+            (gives_after (strings (L.tail self.now.lex.now) at) self.now.line.now self.now.last tiles.now anchor) }
         ensures made_for { T.made_for sink.new ≡ T.made_for sink.old }
-        ensures took { Gave (T.tell self.now.taker.now) T.made_for T.items sink.old
-            (gives_behind (strings (L.tail self.now.lex.now) at) self.now.line.now self.now.last tiles.now anchor) sink.new result }
+        ensures took { Gave (T.report self.now.taker.now) T.made_for T.items sink.old
+            (gives_after (strings (L.tail self.now.lex.now) at) self.now.line.now self.now.last tiles.now anchor) sink.new result }
         ensures steady { T.grows ≡ false → IsOk result }
     {
         match &self.line[anchor] {
@@ -417,10 +417,10 @@ pub fn walk_anchor<L: PathLex, S, T: Taker<S>>(
     requires last { last < SIDE }
     requires anchor { anchor ≤ last }
     requires can { MayGive (T.can_take taker.now) T.made_for sink.old
-        (behind_moves (strings (L.tail lex.now) at) line.now last rack.now anchor) }
+        (after_moves (strings (L.tail lex.now) at) line.now last rack.now anchor) }
     ensures made_for { T.made_for sink.new ≡ T.made_for sink.old }
-    ensures took { Gave (T.tell taker.now) T.made_for T.items sink.old
-        (behind_moves (strings (L.tail lex.now) at) line.now last rack.now anchor) sink.new result }
+    ensures took { Gave (T.report taker.now) T.made_for T.items sink.old
+        (after_moves (strings (L.tail lex.now) at) line.now last rack.now anchor) sink.new result }
     ensures steady { T.grows ≡ false → IsOk result }
 {
     let tiles = Tiles {

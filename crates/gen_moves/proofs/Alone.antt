@@ -22,7 +22,7 @@ second false b e none = absurd (cc)
 pub alone_scores_none : (board : List (Option Tile)) (e : Dir) (square : ℕ) → length board ≡ 225 → square < 225
     → follows_tile e board square ≡ false → precedes_tile e board square 1 ≡ false
     → (rules : Rules) (t : Tile) → cross_score rules e board square t ≡ 0
-alone_scores_none board e square size on before behind rules t =
+alone_scores_none board e square size on before following rules t =
     let line = line_of e square in
     let place = place_of e square in
     let low = place_below e square on in
@@ -34,10 +34,10 @@ alone_scores_none board e square size on before behind rules t =
     } in
     let ahead : IsEndOn (occupied_on e board line) place (place + 1) =
     record {
-      behind = omega arith;
+      following = omega arith;
       inside = omega arith;
       filled = λ k from upto. absurd (omega arith);
-      after = λ short. second (nat_lt (place + 1) 15) (occupied_on e board line (place + 1)) (lt-ltb (place + 1) 15 short) behind;
+      after = λ short. second (nat_lt (place + 1) 15) (occupied_on e board line (place + 1)) (lt-ltb (place + 1) 15 short) following;
     } in
     let run : Run = record { start = square_at e line place; dir = e; len = place + 1 - place } in
     let there = run_with_is board e square place (place + 1) size on back ahead run refl refl refl in

@@ -26,7 +26,7 @@ use Rattle.gen_line.specs.declared.cells.Cell.{Cell}
 use Rattle.gen_line.specs.Moves.{IsMove}
 use Rattle.gen_moves.specs.BoardLines.{IsLineOf}
 use Rattle.gen_moves.specs.LineTiles.{tile_of_entry}
-use Rattle.gen_moves.specs.Laws.{TellsWords, AreLong}
+use Rattle.gen_moves.specs.Laws.{ReportsWords, AreLong}
 use Rattle.gen_moves.specs.declared.places.Place.{Place}
 use Rattle.gen_moves.specs.Bounds.{total, times, IsPlaceOf, one_if, free_count, rack_points, rack_ones, least, stretch_bound}
 use Rattle.gen_moves.specs.Tallies.{letter_sum, cross_sum, tally}
@@ -77,7 +77,7 @@ some_is None h e = false≢true h
 some_is (Some a) h e = cc
 
 module _ (rules : Rules) (words : List (List ℕ)) (d : Dir) (board : List (Option Tile)) (line : ℕ) (cells : List Cell) (is : IsLineOf words d board line cells) (listed : List ℕ → Bool) (rack y : List ℕ)
-    (first len : ℕ) (tells : TellsWords listed words) (long_words : AreLong words) (size : length board ≡ 225) (low : line < 15) (move : IsMove listed cells rack y first len)
+    (first len : ℕ) (reports : ReportsWords listed words) (long_words : AreLong words) (size : length board ≡ 225) (low : line < 15) (move : IsMove listed cells rack y first len)
     (few : length (put_by d line y) ≤ 7) (places : ℕ → Place) (known : (i : ℕ) → i < 15 → IsPlaceOf rules d board (square_at d line i) (places i)) where
   abbrev entry : ℕ → Option Tile
   entry i = tile_of_entry (get_or y i 0)
@@ -207,7 +207,7 @@ module _ (rules : Rules) (words : List (List ℕ)) (d : Dir) (board : List (Opti
   -- the play of a stretch scores at most what the stretch adds up to
   pub tally_le : score_of rules board (put_by d line y) ≤ tally rules places entry first len
   tally_le =
-      let on = move_candidate words d board line cells is listed rack y first len tells long_words size low move few in
+      let on = move_candidate words d board line cells is listed rack y first len reports long_words size low move few in
       let ps = put_by d line y in
       let run = run_of d line (first, len) in
       let long = on.0.long in
@@ -311,7 +311,7 @@ module _ (rules : Rules) (words : List (List ℕ)) (d : Dir) (board : List (Opti
       → ((i : ℕ) → first ≤ i → i < first + len → (places i).free ≡ true → (places i).cross ≤ cross)
       → score_of rules board (put_by d line y) ≤ stretch_bound rules.bonus places first len points ones letter cross
   score_le points ones letter cross rack_is ones_is letters crosses =
-      let on = move_candidate words d board line cells is listed rack y first len tells long_words size low move few in
+      let on = move_candidate words d board line cells is listed rack y first len reports long_words size low move few in
       let ps = put_by d line y in
       let tight = tally_le in
       let weights : total weight first len ≤ points =

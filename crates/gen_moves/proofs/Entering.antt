@@ -106,16 +106,16 @@ put_there d line f a (suc n) j t low high e =
     (cases_eq a j)
 
 -- ---- they rise, and lie on the line
-rising_behind : (square : ℕ) (o : Option Tile) (rest : List Placed) → ((q : Placed) → Contains rest q → square < q.square) → are_rising rest ≡ true → are_rising (placed_on square o ++ rest) ≡ true
-rising_behind square None rest above rising = rising
-rising_behind square (Some t) rest above rising =
+rising_after : (square : ℕ) (o : Option Tile) (rest : List Placed) → ((q : Placed) → Contains rest q → square < q.square) → are_rising rest ≡ true → are_rising (placed_on square o ++ rest) ≡ true
+rising_after square None rest above rising = rising
+rising_after square (Some t) rest above rising =
     and_from (list_all (λ (q : Placed). nat_lt square q.square) rest) (are_rising rest)
     (list_all-each (λ (q : Placed). nat_lt square q.square) rest (λ q c. lt-ltb square q.square (above q c))) rising
 
 pub put-rising : (d : Dir) (line : ℕ) (f : ℕ → Option Tile) (a n : ℕ) → are_rising (put_from d line f a n) ≡ true
 put-rising d line f a zero = refl
 put-rising d line f a (suc n) =
-    rising_behind (square_at d line a) (f a) (put_from d line f (a + 1) n)
+    rising_after (square_at d line a) (f a) (put_from d line f (a + 1) n)
     (λ q c.
     let at = stands_at d line f (a + 1) n q c in
     let square_is = at.square in

@@ -36,7 +36,7 @@ use Rattle.gen_line.specs.Cells.{cell_at, cell_ok, is_anchor_cell, labels, full_
 use Rattle.gen_line.specs.Moves.{IsMove}
 use Rattle.gen_moves.specs.BoardLines.{IsLineOf}
 use Rattle.gen_moves.specs.LineTiles.{tile_of_entry, blank_part, entry_of, entries_of}
-use Rattle.gen_moves.specs.Laws.{TellsWords}
+use Rattle.gen_moves.specs.Laws.{ReportsWords}
 use Rattle.gen_moves.proofs.Lists.{All-flat_map-at}
 use Rattle.gen_moves.proofs.Entering.{tile_again, on_top, placement_again}
 use Rattle.gen_moves.proofs.MovePlaces.{AtPlace, at_place, put_by, there_then, labels_are, stretch_letters, cell_entry, used-put, entries_by_place}
@@ -174,9 +174,9 @@ entry_from d line ps i below some =
     let found = tile_in-found ps (square_at d line i) h.0 h.1 in (found.0, found.1, found.2)
 
 known_move : (words : List (List ℕ)) (d : Dir) (board : List (Option Tile)) (rack : List ℕ) (ps : List Placed) (line first len : ℕ) → Known words d board rack ps line first len
-    → (cells : List Cell) → IsLineOf words d board line cells → (listed : List ℕ → Bool) → TellsWords listed words
+    → (cells : List Cell) → IsLineOf words d board line cells → (listed : List ℕ → Bool) → ReportsWords listed words
     → IsMove listed cells rack (entries_of d line ps) first len
-known_move words d board rack ps line first len k cells is listed told =
+known_move words d board rack ps line first len k cells is listed reported =
     let y = entries_of d line ps in
     let after = with_tiles board ps in
     let inside = k.lies.whole.inside in
@@ -214,15 +214,15 @@ known_move words d board rack ps line first len k cells is listed told =
           let upto = k.lies.high q.0 q.1 in
           (omega arith, omega arith);
       anchored = (place, place_on, (λ z. let both = sym entry_is ∙ z in absurd (omega arith)), is_anchor);
-      word = (told (labels cells y first len)).1 (subst (Contains words) spelled k.word);
+      word = (reported (labels cells y first len)).1 (subst (Contains words) spelled k.word);
       fits = λ n. let from = k.from n in let e = rack_is n in omega arith;
     }
 
 -- a candidate that lies along a line in a stretch of at least two places is a move of that line, whose tiles are the candidate's
 pub candidate_move : (words : List (List ℕ)) (d : Dir) (board : List (Option Tile)) (rack : List ℕ) (ps : List Placed) (line first len : ℕ) → length board ≡ 225 → line < 15 → is_play d ps ≡ true
     → IsCandidate words board rack ps → LiesIn d (with_tiles board ps) ps line first len → 2 ≤ len
-    → (cells : List Cell) → IsLineOf words d board line cells → (listed : List ℕ → Bool) → TellsWords listed words
+    → (cells : List Cell) → IsLineOf words d board line cells → (listed : List ℕ → Bool) → ReportsWords listed words
     → IsMove listed cells rack (entries_of d line ps) first len × (put_by d line (entries_of d line ps) ≡ ps)
-candidate_move words d board rack ps line first len size below play candidate lies long cells is listed told =
+candidate_move words d board rack ps line first len size below play candidate lies long cells is listed reported =
     let k = known words d board rack ps line first len size below play candidate lies long in
-    (known_move words d board rack ps line first len k cells is listed told, k.again)
+    (known_move words d board rack ps line first len k cells is listed reported, k.again)

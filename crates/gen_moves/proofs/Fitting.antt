@@ -23,9 +23,9 @@ use Rattle.gen_line.specs.declared.cells.Cell.{Cell}
 use Rattle.gen_line.specs.Model.{join_range, line_moves}
 use Rattle.gen_line.specs.Walk.{Every, Took, Front, add_all}
 use Rattle.gen_line.proofs.Sinks.{add_all-append, front-less, took-more, range-more}
-use Rattle.gen_moves.specs.Findings.{told, given_along, given_by}
+use Rattle.gen_moves.specs.Findings.{reported, given_along, given_by}
 use Rattle.gen_moves.specs.Laws.{Setting}
-use Rattle.gen_moves.specs.Telling.{IsFitMove, tell, both_cells}
+use Rattle.gen_moves.specs.Reporting.{IsFitMove, report, both_cells}
 use Rattle.gen_moves.proofs.MovePlaces.{put_by, covers_anchor, main_run}
 use Rattle.gen_moves.proofs.Moving.{move_candidate}
 use Rattle.gen_moves.proofs.Gathering.{tiles_is, line_move}
@@ -63,7 +63,7 @@ move_fit words board g listed cells s rack d line low y c =
       subst (IsFitOn board d) (sym (tiles_is d line y)) (
         some,
         λ few.
-            let on = move_candidate words d board line (cells d line) is listed rack y move.0 move.1 s.told s.long s.size low move.2 few in
+            let on = move_candidate words d board line (cells d line) is listed rack y move.0 move.1 s.reported s.long s.size low move.2 few in
             let legal = on.0.candidate.legal in
             (legal, runs_along_line d board (put_by d line y) line move.0 move.1 s.size on.1 legal.no_gap on.0.lies on.0.long),
       ),
@@ -89,11 +89,11 @@ add_all-flat_map add f old [] = refl
 add_all-flat_map add f old (y ∷ ys) =
     add_all-flat_map add f (add_all add old (f y)) ys ∙ sym (add_all-append add old (f y) (flat_map f ys))
 
-pub took_told : {U E : Type 0} (rules : Rules) (board : List (Option Tile)) (d : Dir) (line : ℕ) (add : List Given → Given → List Given) (old : List Given) (ys : List (List ℕ)) (new : List Given) (r : Result U E)
-    → Took (tell rules board d line add) old ys new r → Took add old (flat_map (told rules board d line) ys) new r
-took_told rules board d line add old ys new (Ok u) h = h ∙ add_all-flat_map add (told rules board d line) old ys
-took_told rules board d line add old ys new (Err why) h =
-    let f = told rules board d line in
+pub took_reported : {U E : Type 0} (rules : Rules) (board : List (Option Tile)) (d : Dir) (line : ℕ) (add : List Given → Given → List Given) (old : List Given) (ys : List (List ℕ)) (new : List Given) (r : Result U E)
+    → Took (report rules board d line add) old ys new r → Took add old (flat_map (reported rules board d line) ys) new r
+took_reported rules board d line add old ys new (Ok u) h = h ∙ add_all-flat_map add (reported rules board d line) old ys
+took_reported rules board d line add old ys new (Err why) h =
+    let f = reported rules board d line in
     record {
       front = flat_map f h.front;
       rest = flat_map f h.rest;

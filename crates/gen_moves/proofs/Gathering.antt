@@ -30,8 +30,8 @@ use Rattle.gen_line.specs.Model.{line_moves}
 use Rattle.gen_line.proofs.GivenMoves.{gives_the_moves, gives_none_twice}
 use Rattle.gen_moves.specs.BoardLines.{IsLineOf}
 use Rattle.gen_moves.specs.LineTiles.{faced, tile_of_entry, entry_of, placement_of, tiles_of, entries_of}
-use Rattle.gen_moves.specs.Findings.{told, given_on, given_along, given_by}
-use Rattle.gen_moves.specs.Laws.{TellsWords, AreLong, AreEntries, IsCandidateOn, Setting}
+use Rattle.gen_moves.specs.Findings.{reported, given_on, given_along, given_by}
+use Rattle.gen_moves.specs.Laws.{ReportsWords, AreLong, AreEntries, IsCandidateOn, Setting}
 use Rattle.gen_moves.proofs.Lists.{All-each, in_join, from_join, in_range, from_range, range_differs, AllPairs-append, AllPairs-flat_map}
 use Rattle.gen_moves.proofs.Entering.{tiles_there, put_from, tile_in-put, in_line_from}
 use Rattle.gen_moves.proofs.MovePlaces.{tiled, cell_entry, put_by, put_at, covers_anchor}
@@ -71,40 +71,40 @@ move_low listed cells rack y first len move i below =
 
 -- ---- the moves of a line are the candidates on it
 pub move_is_candidate : (words : List (List ℕ)) (d : Dir) (board : List (Option Tile)) (line : ℕ) (cells : List Cell) (listed : List ℕ → Bool) (rack y : List ℕ) (first len : ℕ)
-    → length board ≡ 225 → line < 15 → IsLineOf words d board line cells → TellsWords listed words → AreLong words → length (tiles_of d line y) ≤ 7
+    → length board ≡ 225 → line < 15 → IsLineOf words d board line cells → ReportsWords listed words → AreLong words → length (tiles_of d line y) ≤ 7
     → IsMove listed cells rack y first len → AreEntries y × IsCandidateOn words d board rack (tiles_of d line y) line first len
-move_is_candidate words d board line cells listed rack y first len size low is tells long few move =
+move_is_candidate words d board line cells listed rack y first len size low is reports long few move =
     let few_put : length (put_by d line y) ≤ 7 = subst (λ (ps : List Placed). length ps ≤ 7) (tiles_is d line y) few in
-    let on = move_candidate words d board line cells is listed rack y first len tells long size low move few_put in
+    let on = move_candidate words d board line cells is listed rack y first len reports long size low move few_put in
     let y_size = move.size in (
       (move.size, All-from_get_or (λ (e : ℕ). e < 53) y 0 (λ i below. move_low listed cells rack y first len move i (omega arith))),
       subst (λ (ps : List Placed). IsCandidateOn words d board rack ps line first len) (sym (tiles_is d line y)) on.0,
     )
 
 pub candidate_on : (words : List (List ℕ)) (d : Dir) (board : List (Option Tile)) (line : ℕ) (cells : List Cell) (listed : List ℕ → Bool) (rack : List ℕ) (ps : List Placed) (first len : ℕ)
-    → length board ≡ 225 → line < 15 → IsLineOf words d board line cells → TellsWords listed words → IsCandidateOn words d board rack ps line first len
+    → length board ≡ 225 → line < 15 → IsLineOf words d board line cells → ReportsWords listed words → IsCandidateOn words d board rack ps line first len
     → IsMove listed cells rack (entries_of d line ps) first len × (tiles_of d line (entries_of d line ps) ≡ ps)
-candidate_on words d board line cells listed rack ps first len size low is tells on =
+candidate_on words d board line cells listed rack ps first len size low is reports on =
     let play = is_play-turned on.candidate.play.0 d ps on.candidate.play.1 (in_line_from d line ps on.lies.lines) in
-    let move = candidate_move words d board rack ps line first len size low play on.candidate on.lies on.long cells is listed tells in
+    let move = candidate_move words d board rack ps line first len size low play on.candidate on.lies on.long cells is listed reports in
     (move.0, tiles_is d line (entries_of d line ps) ∙ move.1)
 
 pub candidate_is_move : (words : List (List ℕ)) (d : Dir) (board : List (Option Tile)) (line : ℕ) (cells : List Cell) (listed : List ℕ → Bool) (rack y : List ℕ) (first len : ℕ)
-    → length board ≡ 225 → line < 15 → IsLineOf words d board line cells → TellsWords listed words
+    → length board ≡ 225 → line < 15 → IsLineOf words d board line cells → ReportsWords listed words
     → AreEntries y → IsCandidateOn words d board rack (tiles_of d line y) line first len → IsMove listed cells rack y first len
-candidate_is_move words d board line cells listed rack y first len size low is tells entries on =
+candidate_is_move words d board line cells listed rack y first len size low is reports entries on =
     let again : entries_of d line (tiles_of d line y) ≡ y =
     ap (entries_of d line) (tiles_is d line y)
     ∙ entries_of_tiles d line y entries.0 (λ i below. let size' = entries.0 in entries.1 i 0 (omega arith)) in
     subst (λ (z : List ℕ). IsMove listed cells rack z first len) again
-    (candidate_on words d board line cells listed rack (tiles_of d line y) first len size low is tells on).0
+    (candidate_on words d board line cells listed rack (tiles_of d line y) first len size low is reports on).0
 
 pub moves_are_candidates : (words : List (List ℕ)) (d : Dir) (board : List (Option Tile)) (line : ℕ) (cells : List Cell) (listed : List ℕ → Bool) (rack y : List ℕ) (first len : ℕ)
-    → length board ≡ 225 → line < 15 → IsLineOf words d board line cells → TellsWords listed words → AreLong words → length (tiles_of d line y) ≤ 7
+    → length board ≡ 225 → line < 15 → IsLineOf words d board line cells → ReportsWords listed words → AreLong words → length (tiles_of d line y) ≤ 7
     → IsMove listed cells rack y first len ↔ (AreEntries y × IsCandidateOn words d board rack (tiles_of d line y) line first len)
-moves_are_candidates words d board line cells listed rack y first len size low is tells long few = (
-  λ move. move_is_candidate words d board line cells listed rack y first len size low is tells long few move,
-  λ h. candidate_is_move words d board line cells listed rack y first len size low is tells h.0 h.1,
+moves_are_candidates words d board line cells listed rack y first len size low is reports long few = (
+  λ move. move_is_candidate words d board line cells listed rack y first len size low is reports long few move,
+  λ h. candidate_is_move words d board line cells listed rack y first len size low is reports h.0 h.1,
 )
 
 -- ---- the moves of the lines of a board
@@ -127,8 +127,8 @@ line_move words board g listed cells s rack d line low y =
     gives_the_moves g listed s.splits (cells d line) rack y (line_labelled words d board line (cells d line) (s.lines d line low))
 
 -- ---- what a move gives
-abbrev told_as : Rules → List (Option Tile) → Dir → List Placed → Given
-told_as rules board d ps = record { dir = d; tiles = ps; score = pos (score_of rules board ps) }
+abbrev reported_as : Rules → List (Option Tile) → Dir → List Placed → Given
+reported_as rules board d ps = record { dir = d; tiles = ps; score = pos (score_of rules board ps) }
 
 one_if : {X : Type 0} (b : Bool) (x a : X) → Contains (if b then x ∷ [] else []) a → (b ≡ true) × (x ≡ a)
 one_if true x a c = (refl, ⊎_elim (λ (s : x ≡ a). s) (λ (s : Contains [] a). absurd (omega (arith, s.1))) (Contains-cases x [] a c))
@@ -142,44 +142,44 @@ one_alone : {X : Type 0} (R : X → X → Type 0) (b : Bool) (x : X) → AllPair
 one_alone R true x = λ i j d less below. absurd (omega arith)
 one_alone R false x = λ i j d less below. absurd (omega arith)
 
-told_is : (rules : Rules) (board : List (Option Tile)) (d : Dir) (line : ℕ) (y : List ℕ) (a : Given) → Contains (told rules board d line y) a
-    → (is_wanted board d (tiles_of d line y) ≡ true) × (told_as rules board d (tiles_of d line y) ≡ a)
-unfolding told
-told_is rules board d line y a c = one_if (is_wanted board d (tiles_of d line y)) (told_as rules board d (tiles_of d line y)) a c
+reported_is : (rules : Rules) (board : List (Option Tile)) (d : Dir) (line : ℕ) (y : List ℕ) (a : Given) → Contains (reported rules board d line y) a
+    → (is_wanted board d (tiles_of d line y) ≡ true) × (reported_as rules board d (tiles_of d line y) ≡ a)
+unfolding reported
+reported_is rules board d line y a c = one_if (is_wanted board d (tiles_of d line y)) (reported_as rules board d (tiles_of d line y)) a c
 
-told_there : (rules : Rules) (board : List (Option Tile)) (d : Dir) (line : ℕ) (y : List ℕ) → is_wanted board d (tiles_of d line y) ≡ true → Contains (told rules board d line y) (told_as rules board d (tiles_of d line y))
-unfolding told
-told_there rules board d line y e = if_one (is_wanted board d (tiles_of d line y)) (told_as rules board d (tiles_of d line y)) e
+reported_there : (rules : Rules) (board : List (Option Tile)) (d : Dir) (line : ℕ) (y : List ℕ) → is_wanted board d (tiles_of d line y) ≡ true → Contains (reported rules board d line y) (reported_as rules board d (tiles_of d line y))
+unfolding reported
+reported_there rules board d line y e = if_one (is_wanted board d (tiles_of d line y)) (reported_as rules board d (tiles_of d line y)) e
 
-told_alone : (rules : Rules) (board : List (Option Tile)) (d : Dir) (line : ℕ) (y : List ℕ) → AllPairs (λ a b. a ≢ b) (told rules board d line y)
-unfolding told
-told_alone rules board d line y = one_alone (λ (a b : Given). a ≢ b) (is_wanted board d (tiles_of d line y)) (told_as rules board d (tiles_of d line y))
+reported_alone : (rules : Rules) (board : List (Option Tile)) (d : Dir) (line : ℕ) (y : List ℕ) → AllPairs (λ a b. a ≢ b) (reported rules board d line y)
+unfolding reported
+reported_alone rules board d line y = one_alone (λ (a b : Given). a ≢ b) (is_wanted board d (tiles_of d line y)) (reported_as rules board d (tiles_of d line y))
 
 -- ---- where what a board gives comes from
-record ToldBy (rules : Rules) (board : List (Option Tile)) (d : Dir) (line : ℕ) (moves : List (List ℕ)) (a : Given) : Type 0 where
+record ReportedBy (rules : Rules) (board : List (Option Tile)) (d : Dir) (line : ℕ) (moves : List (List ℕ)) (a : Given) : Type 0 where
   y : List ℕ
   there : Contains moves y
   wanted : is_wanted board d (tiles_of d line y) ≡ true
-  is : told_as rules board d (tiles_of d line y) ≡ a
+  is : reported_as rules board d (tiles_of d line y) ≡ a
 
 from_line : (rules : Rules) (board : List (Option Tile)) (g : List ℕ → Bool) (cells : Dir → ℕ → List Cell) (rack : List ℕ) (d : Dir) (line : ℕ) (a : Given)
-    → Contains (given_on rules board g cells rack d line) a → ToldBy rules board d line (line_moves g (cells d line) rack) a
+    → Contains (given_on rules board g cells rack d line) a → ReportedBy rules board d line (line_moves g (cells d line) rack) a
 from_line rules board g cells rack d line a c =
-    let from = from_join (told rules board d line) (line_moves g (cells d line) rack) a c in
-    let is = told_is rules board d line from.0 a from.2 in
+    let from = from_join (reported rules board d line) (line_moves g (cells d line) rack) a c in
+    let is = reported_is rules board d line from.0 a from.2 in
     record { y = from.0; there = from.1; wanted = is.0; is = is.1 }
 
 record GivenAlong (rules : Rules) (board : List (Option Tile)) (g : List ℕ → Bool) (cells : Dir → ℕ → List Cell) (rack : List ℕ) (d : Dir) (a : Given) : Type 0 where
   line : ℕ
   low : line < 15
-  told_by : ToldBy rules board d line (line_moves g (cells d line) rack) a
+  reported_by : ReportedBy rules board d line (line_moves g (cells d line) rack) a
 
 from_along : (rules : Rules) (board : List (Option Tile)) (g : List ℕ → Bool) (cells : Dir → ℕ → List Cell) (rack : List ℕ) (d : Dir) (a : Given)
     → Contains (given_along rules board g cells rack d) a → GivenAlong rules board g cells rack d a
 from_along rules board g cells rack d a c =
     let from = from_join (given_on rules board g cells rack d) (range_with_len 0 15) a c in
     let range = from_range 0 15 from.0 from.1 in
-    record { line = from.0; low = omega arith; told_by = from_line rules board g cells rack d from.0 a from.2 }
+    record { line = from.0; low = omega arith; reported_by = from_line rules board g cells rack d from.0 a from.2 }
 
 -- ---- what is given is a candidate
 pub wanted_few : (board : List (Option Tile)) (d : Dir) (ps : List Placed) → is_wanted board d ps ≡ true → (direction_of board ps ≡ d) × (length ps ≤ 7)
@@ -193,12 +193,12 @@ IsSoundGiven rules words board rack a = IsCandidate words board rack a.tiles × 
 given_sound : (rules : Rules) (words : List (List ℕ)) (board : List (Option Tile)) (g listed : List ℕ → Bool) (cells : Dir → ℕ → List Cell) → Setting words board g listed cells
     → (rack : List ℕ) (d : Dir) (a : Given) → GivenAlong rules board g cells rack d a → IsSoundGiven rules words board rack a
 given_sound rules words board g listed cells s rack d a from =
-    let t = from.told_by in
+    let t = from.reported_by in
     let line = from.line in
     let ps = tiles_of d line t.y in
     let wanted = wanted_few board d ps t.wanted in
     let move = (line_move words board g listed cells s rack d line from.low t.y).0 t.there in
-    let on = move_is_candidate words d board line (cells d line) listed rack t.y move.0 move.1 s.size from.low (s.lines d line from.low) s.told s.long wanted.1 move.2 in
+    let on = move_is_candidate words d board line (cells d line) listed rack t.y move.0 move.1 s.size from.low (s.lines d line from.low) s.reported s.long wanted.1 move.2 in
     subst (IsSoundGiven rules words board rack) t.is
     (on.1.candidate, ap (λ (e : Dir). let b : Given = record { dir = e; tiles = ps; score = pos (score_of rules board ps) } in b) (sym wanted.0))
 
@@ -221,17 +221,17 @@ given_there rules words board g listed cells s rack ps candidate =
     let line = along.line in
     let y = entries_of d line ps in
     let on : IsCandidateOn words d board rack ps line along.first along.len = record { candidate = candidate; lies = along.lies; long = along.long } in
-    let found = candidate_on words d board line (cells d line) listed rack ps along.first along.len s.size along.below (s.lines d line along.below) s.told on in
+    let found = candidate_on words d board line (cells d line) listed rack ps along.first along.len s.size along.below (s.lines d line along.below) s.reported on in
     let move_there = (line_move words board g listed cells s rack d line along.below y).1 (along.first, along.len, found.0) in
     let wanted : is_wanted board d (tiles_of d line y) ≡ true =
     subst (λ (qs : List Placed). is_wanted board d qs ≡ true) (sym found.1)
     (and_from (same_dir d d) (nat_le (length ps) 7) (same_dir-self d) (le-leb (length ps) 7 (is_play-few candidate.play.0 ps candidate.play.1))) in
-    let here : Contains (told rules board d line y) (given_of rules board ps) =
-    subst (λ (qs : List Placed). Contains (told rules board d line y) (told_as rules board d qs)) found.1 (told_there rules board d line y wanted) in
+    let here : Contains (reported rules board d line y) (given_of rules board ps) =
+    subst (λ (qs : List Placed). Contains (reported rules board d line y) (reported_as rules board d qs)) found.1 (reported_there rules board d line y wanted) in
     let below = along.below in
     in_board rules board g cells rack d (given_of rules board ps)
     (in_join (given_on rules board g cells rack d) (range_with_len 0 15) line (given_of rules board ps) (in_range 0 15 line (omega arith) (omega arith))
-    (in_join (told rules board d line) (line_moves g (cells d line) rack) y (given_of rules board ps) move_there here))
+    (in_join (reported rules board d line) (line_moves g (cells d line) rack) y (given_of rules board ps) move_there here))
 
 -- ---- none is given twice
 -- a move's entries are those of its tiles
@@ -252,22 +252,22 @@ tile_of_move words board g listed cells s rack d line low y c =
 tile_on_line : (d : Dir) (line : ℕ) (y : List ℕ) → line < 15 → (q : Placed) → Contains (tiles_of d line y) q → line_of d q.square ≡ line
 tile_on_line d line y low q c = (put_at d line y q low (subst (λ (ps : List Placed). Contains ps q) (tiles_is d line y) c)).on_line
 
-same_tiles : (rules : Rules) (board : List (Option Tile)) (d e : Dir) (l m : ℕ) (xs ys : List (List ℕ)) (a b : Given) (t : ToldBy rules board d l xs a) (u : ToldBy rules board e m ys b)
+same_tiles : (rules : Rules) (board : List (Option Tile)) (d e : Dir) (l m : ℕ) (xs ys : List (List ℕ)) (a b : Given) (t : ReportedBy rules board d l xs a) (u : ReportedBy rules board e m ys b)
     → a ≡ b → (d ≡ e) × (tiles_of d l t.y ≡ tiles_of e m u.y)
 same_tiles rules board d e l m xs ys a b t u same =
-    let both : told_as rules board d (tiles_of d l t.y) ≡ told_as rules board e (tiles_of e m u.y) = t.is ∙ same ∙ sym u.is in
+    let both : reported_as rules board d (tiles_of d l t.y) ≡ reported_as rules board e (tiles_of e m u.y) = t.is ∙ same ∙ sym u.is in
     (ap (λ (x : Given). x.dir) both, ap (λ (x : Given). x.tiles) both)
 
 once_on : (rules : Rules) (words : List (List ℕ)) (board : List (Option Tile)) (g listed : List ℕ → Bool) (cells : Dir → ℕ → List Cell) → Setting words board g listed cells
     → (rack : List ℕ) (d : Dir) (line : ℕ) → line < 15 → AllPairs (λ a b. a ≢ b) (given_on rules board g cells rack d line)
 once_on rules words board g listed cells s rack d line low =
-    AllPairs-flat_map (λ (y z : List ℕ). y ≢ z) (λ (a b : Given). a ≢ b) (told rules board d line) (line_moves g (cells d line) rack)
+    AllPairs-flat_map (λ (y z : List ℕ). y ≢ z) (λ (a b : Given). a ≢ b) (reported rules board d line) (line_moves g (cells d line) rack)
     (gives_none_twice g (cells d line) rack (s.lines d line low).size)
-    (λ y c. told_alone rules board d line y)
+    (λ y c. reported_alone rules board d line y)
     (λ y z a b has_y has_z differ has_a has_b same.
-    let first = told_is rules board d line y a has_a in
-    let second = told_is rules board d line z b has_b in
-    let both : told_as rules board d (tiles_of d line y) ≡ told_as rules board d (tiles_of d line z) = first.1 ∙ same ∙ sym second.1 in
+    let first = reported_is rules board d line y a has_a in
+    let second = reported_is rules board d line z b has_b in
+    let both : reported_as rules board d (tiles_of d line y) ≡ reported_as rules board d (tiles_of d line z) = first.1 ∙ same ∙ sym second.1 in
     differ
     (sym (entries_of_move words board g listed cells s rack d line low y has_y)
     ∙ ap (λ (x : Given). entries_of d line x.tiles) both
@@ -300,7 +300,7 @@ once_all rules words board g listed cells s rack =
     let t = from_along rules board g cells rack Across a has_a in
     let u = from_along rules board g cells rack Down b has_b in
     let dirs : Across ≡ Down =
-    (same_tiles rules board Across Down t.line u.line (line_moves g (cells Across t.line) rack) (line_moves g (cells Down u.line) rack) a b t.told_by u.told_by same).0 in
+    (same_tiles rules board Across Down t.line u.line (line_moves g (cells Across t.line) rack) (line_moves g (cells Down u.line) rack) a b t.reported_by u.reported_by same).0 in
     cc)
 
 -- ---- what a board gives is all candidates, each once, and no others

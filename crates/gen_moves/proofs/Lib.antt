@@ -10,7 +10,7 @@ pub mod Examples
 pub mod Fitting
 pub mod CellLaws
 pub mod Alone
-pub mod Behind
+pub mod After
 pub mod Writing
 pub mod Taking
 pub mod Sums

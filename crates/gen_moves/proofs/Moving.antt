@@ -35,7 +35,7 @@ use Rattle.gen_line.specs.Cells.{cell_at, cell_ok, labels}
 use Rattle.gen_line.specs.Moves.{IsMove}
 use Rattle.gen_moves.specs.BoardLines.{IsLineOf}
 use Rattle.gen_moves.specs.LineTiles.{faced, tile_of_entry}
-use Rattle.gen_moves.specs.Laws.{TellsWords, AreLong, IsCandidateOn}
+use Rattle.gen_moves.specs.Laws.{ReportsWords, AreLong, IsCandidateOn}
 use Rattle.gen_moves.proofs.Lists.{list_all-each, All-flat_map}
 use Rattle.gen_moves.proofs.Entering.{put-rising, put-in_line}
 use Rattle.gen_moves.proofs.MovePlaces.{tiled, faced-shows, cell_entry, at_place, put_by, put_at, there_then, move_lies, length-labels, covers_anchor, move_sound, labels_are, stretch_letters, main_run, used-put, entries_by_place}
@@ -120,13 +120,13 @@ play_from d ps some few on rising line =
 
 -- the move puts down at most seven tiles
 pub move_candidate : (words : List (List ℕ)) (d : Dir) (board : List (Option Tile)) (line : ℕ) (cells : List Cell) → IsLineOf words d board line cells → (listed : List ℕ → Bool) (rack y : List ℕ) (first len : ℕ)
-    → TellsWords listed words → AreLong words → length board ≡ 225 → line < 15 → IsMove listed cells rack y first len → length (put_by d line y) ≤ 7
+    → ReportsWords listed words → AreLong words → length board ≡ 225 → line < 15 → IsMove listed cells rack y first len → length (put_by d line y) ≤ 7
     → IsCandidateOn words d board rack (put_by d line y) line first len × (is_play d (put_by d line y) ≡ true)
-move_candidate words d board line cells is listed rack y first len told long_words size low move few =
+move_candidate words d board line cells is listed rack y first len reported long_words size low move few =
     let ps = put_by d line y in
     let f = λ (i : ℕ). tile_of_entry (get_or y i 0) in
     let after = with_tiles board ps in
-    let word : Contains words (map (λ l. l + 64) (labels cells y first len)) = (told (labels cells y first len)).0 move.word in
+    let word : Contains words (map (λ l. l + 64) (labels cells y first len)) = (reported (labels cells y first len)).0 move.word in
     let long : 2 ≤ len =
     (let word_long = long_words (map (λ l. l + 64) (labels cells y first len)) word in
     let a = length-map (labels cells y first len) (λ (l : ℕ). l + 64) in

@@ -27,12 +27,12 @@ use Rattle.gen_line.proofs.Reaching.{anchor_owes, anchor_reach}
 use Rattle.gen_line.proofs.Sinks.{all-still}
 use Rattle.gen_moves.specs.declared.places.Place.{Place}
 use Rattle.gen_moves.specs.LineTiles.{tile_of_entry, line_tiles, new_tile, tiles_of}
-use Rattle.gen_moves.specs.Findings.{told}
+use Rattle.gen_moves.specs.Findings.{reported}
 use Rattle.gen_moves.specs.Laws.{Setting}
 use Rattle.gen_moves.specs.Tallies.{is_laid, tally, LiesOn, IsTallied}
 use Rattle.gen_moves.specs.Closing.{AreOpen}
 use Rattle.gen_moves.proofs.Passable.{passes_open}
-use Rattle.gen_moves.specs.Bounds.{rack_points, rack_ones, IsPlaceOf, ArePlaces, HasScores, TellsUnder, IsOffer, AreOffers}
+use Rattle.gen_moves.specs.Bounds.{rack_points, rack_ones, IsPlaceOf, ArePlaces, HasScores, ReportsUnder, IsOffer, AreOffers}
 use Rattle.gen_moves.proofs.Entering.{on_top, tiles_there}
 use Rattle.gen_moves.proofs.MovePlaces.{AtPlace, put_by, at_place}
 use Rattle.gen_moves.proofs.Gathering.{tiles_is, line_labelled, wanted_few}
@@ -43,10 +43,10 @@ every-more P Q [] h all = tt
 every-more P Q (x ∷ xs) h all = (h x all.0, every-more P Q xs h all.1)
 
 -- what a move gives whose score is known not to exceed a number
-told_under : (rules : Rules) (board : List (Option Tile)) (d : Dir) (line : ℕ) (y : List ℕ) (bound : ℕ)
-    → (is_wanted board d (tiles_of d line y) ≡ true → score_of rules board (tiles_of d line y) ≤ bound) → TellsUnder rules board d line y bound
-unfolding told
-told_under rules board d line y bound le = by (is_wanted board d (tiles_of d line y)) refl
+reported_under : (rules : Rules) (board : List (Option Tile)) (d : Dir) (line : ℕ) (y : List ℕ) (bound : ℕ)
+    → (is_wanted board d (tiles_of d line y) ≡ true → score_of rules board (tiles_of d line y) ≤ bound) → ReportsUnder rules board d line y bound
+unfolding reported
+reported_under rules board d line y bound le = by (is_wanted board d (tiles_of d line y)) refl
   where
     by : (b : Bool) → is_wanted board d (tiles_of d line y) ≡ b
         → Every (λ (given : Given). given.score ≤ℤ pos bound) (if b then record { dir = d; tiles = tiles_of d line y; score = pos (score_of rules board (tiles_of d line y)) } ∷ [] else [])
@@ -63,13 +63,13 @@ offer rules words board g listed cells s rack d line low places are opens open_a
     let len = found.1 in
     let move = found.2 in
     let reach = found.3 in
-    told_under rules board d line y bound (λ wanted.
+    reported_under rules board d line y bound (λ wanted.
     let few_tiles = (wanted_few board d (tiles_of d line y) wanted).1 in
     let few : length (put_by d line y) ≤ 7 = subst (λ (qs : List Placed). length qs ≤ 7) (tiles_is d line y) few_tiles in
-    let count = count_is rules words d board line (cells d line) (s.lines d line low) listed rack y first len s.told s.long s.size low move few places are in
+    let count = count_is rules words d board line (cells d line) (s.lines d line low) listed rack y first len s.reported s.long s.size low move few places are in
     let w = holds first reach.low reach.first_anchor len reach.high move.whole.inside (omega arith) (passes_open listed (cells d line) rack y first len move opens open_are) in
     let within = w.within in
-    let score = score_le rules words d board line (cells d line) (s.lines d line low) listed rack y first len s.told s.long s.size low move few places are
+    let score = score_le rules words d board line (cells d line) (s.lines d line low) listed rack y first len s.reported s.long s.size low move few places are
     (rack_points rules rack 27) (rack_ones rules rack 27) w.letter w.cross (omega arith) (omega arith) w.letters w.crosses in
     subst (λ (qs : List Placed). score_of rules board qs ≤ bound) (sym (tiles_is d line y)) (omega arith))
 
@@ -135,12 +135,12 @@ tallied rules words board g listed cells s rack d line low places are h below y 
       first = first;
       len = len;
       lies = subst (λ (f : ℕ → Option Tile). LiesOn places f first len) (sym (tiles_there y)) lies;
-      under = told_under rules board d line y (tally rules places (new_tile (line_tiles y)) first len) (λ wanted.
+      under = reported_under rules board d line y (tally rules places (new_tile (line_tiles y)) first len) (λ wanted.
           let few_tiles = (wanted_few board d (tiles_of d line y) wanted).1 in
           let few : length (put_by d line y) ≤ 7 = subst (λ (qs : List Placed). length qs ≤ 7) (tiles_is d line y) few_tiles in
           subst (λ (qs : List Placed). score_of rules board qs ≤ tally rules places (new_tile (line_tiles y)) first len) (sym (tiles_is d line y))
           (subst (λ (f : ℕ → Option Tile). score_of rules board (put_by d line y) ≤ tally rules places f first len) (sym (tiles_there y))
-          (tally_le rules words d board line (cells d line) is listed rack y first len s.told s.long s.size low move few places are)));
+          (tally_le rules words d board line (cells d line) is listed rack y first len s.reported s.long s.size low move few places are)));
     }
 
 pub all_tallied : (rules : Rules) (words : List (List ℕ)) (board : List (Option Tile)) (g listed : List ℕ → Bool) (cells : Dir → ℕ → List Cell) → Setting words board g listed cells
@@ -168,11 +168,11 @@ every-both P Q (x ∷ xs) all also = ((all.0, also.0), every-both P Q xs all.1 a
 
 -- a move whose play does not exceed a number does not change a sink that does not need such a play
 pub passed_over : (rules : Rules) (board : List (Option Tile)) (d : Dir) (line : ℕ) (y : List ℕ) (bound : ℕ) (W : Given → Type 0) (add : List Given → Given → List Given) (items : List Given)
-    → ((given : Given) → W given → given.score ≤ℤ pos bound → add items given ≡ items) → Every W (told rules board d line y) → TellsUnder rules board d line y bound
-    → add_all add items (told rules board d line y) ≡ items
+    → ((given : Given) → W given → given.score ≤ℤ pos bound → add items given ≡ items) → Every W (reported rules board d line y) → ReportsUnder rules board d line y bound
+    → add_all add items (reported rules board d line y) ≡ items
 passed_over rules board d line y bound W add items still along under =
-    sym (all-still add items (λ (given : Given). W given × (given.score ≤ℤ pos bound)) (told rules board d line y) (λ given known. still given known.0 known.1)
-    (every-both W (λ (given : Given). given.score ≤ℤ pos bound) (told rules board d line y) along under))
+    sym (all-still add items (λ (given : Given). W given × (given.score ≤ℤ pos bound)) (reported rules board d line y) (λ given known. still given known.0 known.1)
+    (every-both W (λ (given : Given). given.score ≤ℤ pos bound) (reported rules board d line y) along under))
 
 -- a place that is not an anchor has no moves
 pub no_offers : (P : List ℕ → Type 0) (g : List ℕ → Bool) (cells : List Cell) (rack : List ℕ) (h : ℕ) → is_anchor_cell (cell_at cells h) ≡ false → Every P (anchor_moves g cells rack h)

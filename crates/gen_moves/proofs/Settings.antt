@@ -15,18 +15,18 @@ use Rattle.ref_board.specs.declared.directions.Dir.TheVariants.{Across, Down}
 use Rattle.gen_cross.specs.declared.crosses.Cross.{Cross}
 use Rattle.gen_cross.specs.Values.{HasMasks, IsRight}
 use Rattle.gen_line.specs.declared.cells.Cell.{Cell}
-use Rattle.gen_line.specs.Moves.{back, behind_mark, AreSplits}
+use Rattle.gen_line.specs.Moves.{back, after_mark, AreSplits}
 use Rattle.gen_moves.specs.BoardLines.{IsLineOf}
 use Rattle.gen_moves.specs.Laws.{AreLong, Setting}
-use Rattle.gen_moves.specs.Telling.{both_cells}
+use Rattle.gen_moves.specs.Reporting.{both_cells}
 
 -- ---- the test of paths has the splits of each word
 abbrev pub lists : List (List ℕ) → List ℕ → Bool
 lists words ls = is_listed words (map letter_of ls)
 
-behind_is : (rest : List ℕ) → behind_mark rest ≡ paths.behind_mark rest
-behind_is [] = refl
-behind_is (l ∷ ls) = refl
+after_is : (rest : List ℕ) → after_mark rest ≡ paths.after_mark rest
+after_is [] = refl
+after_is (l ∷ ls) = refl
 
 back_is : (ls rest : List ℕ) → back ls rest ≡ reverse ls ++ rest
 back_is [] rest = refl
@@ -35,7 +35,7 @@ back_is (l ∷ ls) rest =
 
 splits_of : (words : List (List ℕ)) (g : List ℕ → Bool) → StandsFor g words → AreSplits g (lists words)
 splits_of words g stands ls rest some above =
-    ap (λ (behind : List ℕ). g (ls ++ behind)) (behind_is rest) ∙ split words g stands ls rest some above ∙ ap (lists words) (sym (back_is ls rest))
+    ap (λ (following : List ℕ). g (ls ++ following)) (after_is rest) ∙ split words g stands ls rest some above ∙ ap (lists words) (sym (back_is ls rest))
 
 pub set_up : (words : List (List ℕ)) (board : List (Option Tile)) (g : List ℕ → Bool) (a b : List (List Cell)) → length board ≡ 225 → StandsFor g words → AreLong words
     → ((line : ℕ) → line < 15 → IsLineOf words Across board line (slice_index_or a line [])) → ((line : ℕ) → line < 15 → IsLineOf words Down board line (slice_index_or b line []))
@@ -45,7 +45,7 @@ set_up words board g a b size stands long across down =
       size = size;
       lines = lines;
       splits = splits_of words g stands;
-      told = λ ls. (member_from_listed words (map letter_of ls), listed_from_member words (map letter_of ls));
+      reported = λ ls. (member_from_listed words (map letter_of ls), listed_from_member words (map letter_of ls));
       long = long;
     }
   where

@@ -27,10 +27,10 @@ use Rattle.gen_line.specs.Walk.{Every, Front, add_all, anchor_moves}
 use Rattle.gen_line.proofs.Anchors.{all_given}
 use Rattle.gen_line.proofs.Sinks.{every-same, every-join, all-still, add_all-append, front-same, front-less, front-more}
 use Rattle.gen_moves.specs.declared.starts.Start.{Start}
-use Rattle.gen_moves.specs.Findings.{told, given_on, given_along, given_by}
+use Rattle.gen_moves.specs.Findings.{reported, given_on, given_along, given_by}
 use Rattle.gen_moves.specs.Laws.{Setting}
-use Rattle.gen_moves.specs.Telling.{IsFitMove, both_cells}
-use Rattle.gen_moves.specs.Bounds.{TellsUnder, AreOffers, rack_points, rack_ones}
+use Rattle.gen_moves.specs.Reporting.{IsFitMove, both_cells}
+use Rattle.gen_moves.specs.Bounds.{ReportsUnder, AreOffers, rack_points, rack_ones}
 use Rattle.gen_moves.specs.Starts.{IsStartOf, AreStarts, IsGood, GoesAlong, AreUnder, dir_of, bound_in, given_at, given_from}
 use Rattle.gen_moves.proofs.Fitting.{moves_fit, add_all-flat_map, join_flat}
 use Rattle.gen_moves.proofs.Offering.{passed_over, every-both, all_tallied, all_offers}
@@ -53,10 +53,10 @@ goes_along (Some own) board Down line y score is fit wanted =
     ∙ ap (λ (d : Dir). (written_on ps (runs_along d (with_tiles board ps) ps)).dir) few.0
     ∙ ap (λ (rs : List Run). (written_on ps rs).dir) runs
 
-pub told_along : (for : Option (List (Option Tile))) (rules : Rules) (board : List (Option Tile)) (d : Dir) (line : ℕ) (y : List ℕ) → IsFor for board → IsFitMove board d line y
-    → Every (GoesAlong for d) (told rules board d line y)
-unfolding told
-told_along for rules board d line y is fit = by (is_wanted board d (tiles_of d line y)) refl
+pub reported_along : (for : Option (List (Option Tile))) (rules : Rules) (board : List (Option Tile)) (d : Dir) (line : ℕ) (y : List ℕ) → IsFor for board → IsFitMove board d line y
+    → Every (GoesAlong for d) (reported rules board d line y)
+unfolding reported
+reported_along for rules board d line y is fit = by (is_wanted board d (tiles_of d line y)) refl
   where
     by : (b : Bool) → is_wanted board d (tiles_of d line y) ≡ b
         → Every (GoesAlong for d) (if b then record { dir = d; tiles = tiles_of d line y; score = pos (score_of rules board (tiles_of d line y)) } ∷ [] else [])
@@ -65,12 +65,12 @@ told_along for rules board d line y is fit = by (is_wanted board d (tiles_of d l
 
 pub left_out : (for : Option (List (Option Tile))) (rules : Rules) (board : List (Option Tile)) (d : Dir) (line bound : ℕ) (ys : List (List ℕ)) (add : List Given → Given → List Given) (items : List Given)
     → ((given : Given) → GoesAlong for d given → given.score ≤ℤ pos bound → add items given ≡ items) → IsFor for board → Every (IsFitMove board d line) ys
-    → Every (λ y. TellsUnder rules board d line y bound) ys → items ≡ add_all add items (flat_map (told rules board d line) ys)
+    → Every (λ y. ReportsUnder rules board d line y bound) ys → items ≡ add_all add items (flat_map (reported rules board d line) ys)
 left_out for rules board d line bound ys add items still is fits under =
-    all-still (λ items y. add_all add items (told rules board d line y)) items (λ y. IsFitMove board d line y × TellsUnder rules board d line y bound) ys
-    (λ y known. passed_over rules board d line y bound (GoesAlong for d) add items still (told_along for rules board d line y is known.0) known.1)
-    (every-both (IsFitMove board d line) (λ y. TellsUnder rules board d line y bound) ys fits under)
-    ∙ add_all-flat_map add (told rules board d line) items ys
+    all-still (λ items y. add_all add items (reported rules board d line y)) items (λ y. IsFitMove board d line y × ReportsUnder rules board d line y bound) ys
+    (λ y known. passed_over rules board d line y bound (GoesAlong for d) add items still (reported_along for rules board d line y is known.0) known.1)
+    (every-both (IsFitMove board d line) (λ y. ReportsUnder rules board d line y bound) ys fits under)
+    ∙ add_all-flat_map add (reported rules board d line) items ys
 
 -- ---- a sink that was refused memory in the middle of the starts
 parts : {X A : Type 0} (f : X → List A) (xs : List X) (n : ℕ) (d : X) → n < length xs → flat_map f xs ≡ (flat_map f (take n xs) ++ f (get_or xs n d)) ++ flat_map f (drop (suc n) xs)
@@ -183,14 +183,14 @@ by_lines f k a (suc n) same =
     ∙ ap (λ (xs : List _). xs ++ join_range f (a + 15 * n) 15) (by_lines f k a n (λ l i low below. same l i (omega arith) below))
     ∙ ap (λ (xs : List _). join_range (λ l. join_range (k l) 0 15) 0 n ++ xs) (alike f (k (0 + n)) (a + 15 * n) 0 15 (λ i below. same n i (omega arith) below ∙ ap (λ (m : ℕ). k m i) (omega arith) ∙ ap (k (0 + n)) (omega arith)))
 
-join_told : {X A : Type 0} (t : X → List A) (f : ℕ → List X) (a n : ℕ) → join_range (λ i. flat_map t (f i)) a n ≡ flat_map t (join_range f a n)
-join_told t f a zero = refl
-join_told t f a (suc n) = ap (λ (xs : List _). xs ++ flat_map t (f (a + n))) (join_told t f a n) ∙ sym (flat_map-append t (join_range f a n) (f (a + n)))
+join_reported : {X A : Type 0} (t : X → List A) (f : ℕ → List X) (a n : ℕ) → join_range (λ i. flat_map t (f i)) a n ≡ flat_map t (join_range f a n)
+join_reported t f a zero = refl
+join_reported t f a (suc n) = ap (λ (xs : List _). xs ++ flat_map t (f (a + n))) (join_reported t f a n) ∙ sym (flat_map-append t (join_range f a n) (f (a + n)))
 
 line_given : (rules : Rules) (board : List (Option Tile)) (g : List ℕ → Bool) (cells : Dir → ℕ → List Cell) (rack : List ℕ) (d : Dir) (line : ℕ) → length (cells d line) ≡ 15
     → join_range (given_at rules board g cells rack d line) 0 15 ≡ given_on rules board g cells rack d line
 line_given rules board g cells rack d line size =
-    join_told (told rules board d line) (anchor_moves g (cells d line) rack) 0 15 ∙ ap (flat_map (told rules board d line)) (all_given g (cells d line) rack size)
+    join_reported (reported rules board d line) (anchor_moves g (cells d line) rack) 0 15 ∙ ap (flat_map (reported rules board d line)) (all_given g (cells d line) rack size)
 
 -- a list by its places
 by_places : {X A : Type 0} (f : X → List A) (k : ℕ → List A) (xs : List X) (d : X) (a : ℕ) → ((i : ℕ) → i < length xs → f (get_or xs i d) ≡ k (a + i)) → flat_map f xs ≡ flat_map k (range_with_len a (length xs))

@@ -169,13 +169,13 @@ put_split d line g a (suc m) n =
 pub put_within : (d : Dir) (line : ℕ) (g : ℕ → Option Tile) (first len : ℕ) → first + len ≤ 15 → ((i : ℕ) → i < 15 → (i < first → g i ≡ None) × (first + len ≤ i → g i ≡ None))
     → put_from d line g 0 15 ≡ put_from d line g first len
 put_within d line g first len inside none =
-    let behind : ℕ = 15 - (first + len) in
-    let all : 15 ≡ first + (len + behind) = omega arith in
+    let following : ℕ = 15 - (first + len) in
+    let all : 15 ≡ first + (len + following) = omega arith in
     let zero_first : 0 + first ≡ first = omega arith in
     ap (put_from d line g 0) all
-    ∙ put_split d line g 0 first (len + behind)
-    ∙ ap (λ qs. qs ++ put_from d line g (0 + first) (len + behind)) (put_none d line g 0 first (λ i low high. (none i (omega arith)).0 (omega arith)))
-    ∙ ap (λ b. put_from d line g b (len + behind)) zero_first
-    ∙ put_split d line g first len behind
-    ∙ ap (λ qs. put_from d line g first len ++ qs) (put_none d line g (first + len) behind (λ i low high. (none i (omega arith)).1 (omega arith)))
+    ∙ put_split d line g 0 first (len + following)
+    ∙ ap (λ qs. qs ++ put_from d line g (0 + first) (len + following)) (put_none d line g 0 first (λ i low high. (none i (omega arith)).0 (omega arith)))
+    ∙ ap (λ b. put_from d line g b (len + following)) zero_first
+    ∙ put_split d line g first len following
+    ∙ ap (λ qs. put_from d line g first len ++ qs) (put_none d line g (first + len) following (λ i low high. (none i (omega arith)).1 (omega arith)))
     ∙ append-nil (put_from d line g first len)

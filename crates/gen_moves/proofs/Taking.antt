@@ -12,39 +12,39 @@ use Rattle.ref_play.specs.Best.{Given}
 use Rattle.gen_line.specs.Walk.{Took, add_all}
 use Rattle.gen_sinks.specs.Sinks.{seen}
 use Rattle.gen_moves.specs.LineTiles.{line_tiles, tiles_of}
-use Rattle.gen_moves.specs.Findings.{told}
-use Rattle.gen_moves.specs.Telling.{tell, PlayIs}
+use Rattle.gen_moves.specs.Findings.{reported}
+use Rattle.gen_moves.specs.Reporting.{report, PlayIs}
 
-abbrev told_as : Rules → List (Option Tile) → Dir → ℕ → List ℕ → Given
-told_as rules board d line y =
+abbrev reported_as : Rules → List (Option Tile) → Dir → ℕ → List ℕ → Given
+reported_as rules board d line y =
     record { dir = d; tiles = tiles_of d line y; score = pos (score_of rules board (tiles_of d line y)) }
 
 abbrev wants : List (Option Tile) → Dir → ℕ → List ℕ → Bool
 wants board d line y = is_wanted board d (tiles_of d line y)
 
-told_by : (rules : Rules) (board : List (Option Tile)) (d : Dir) (line : ℕ) (y : List ℕ) (b : Bool) → wants board d line y ≡ b → told rules board d line y ≡ (if b then told_as rules board d line y ∷ [] else [])
-unfolding told
-told_by rules board d line y b e = ap (λ (c : Bool). if c then told_as rules board d line y ∷ [] else []) e
+reported_by : (rules : Rules) (board : List (Option Tile)) (d : Dir) (line : ℕ) (y : List ℕ) (b : Bool) → wants board d line y ≡ b → reported rules board d line y ≡ (if b then reported_as rules board d line y ∷ [] else [])
+unfolding reported
+reported_by rules board d line y b e = ap (λ (c : Bool). if c then reported_as rules board d line y ∷ [] else []) e
 
 -- nothing is given for entries whose play is not wanted
-pub tell_none : (rules : Rules) (board : List (Option Tile)) (d : Dir) (line : ℕ) (add : List Given → Given → List Given) (items : List Given) (y : List ℕ) → PlayIs board d line (line_tiles y) None → items ≡ tell rules board d line add items y
-tell_none rules board d line add items y none = sym (ap (add_all add items) (told_by rules board d line y false none))
+pub report_none : (rules : Rules) (board : List (Option Tile)) (d : Dir) (line : ℕ) (add : List Given → Given → List Given) (items : List Given) (y : List ℕ) → PlayIs board d line (line_tiles y) None → items ≡ report rules board d line add items y
+report_none rules board d line add items y none = sym (ap (add_all add items) (reported_by rules board d line y false none))
 
 -- and for others the play
-tell_one : (rules : Rules) (board : List (Option Tile)) (d : Dir) (line : ℕ) (add : List Given → Given → List Given) (items : List Given) (y : List ℕ) (play : Play) (points : ℤ) → PlayIs board d line (line_tiles y) (Some play)
-    → points ≡ pos (score_of rules board play.tiles.items) → tell rules board d line add items y ≡ add items (seen play points)
-tell_one rules board d line add items y play points is score =
+report_one : (rules : Rules) (board : List (Option Tile)) (d : Dir) (line : ℕ) (add : List Given → Given → List Given) (items : List Given) (y : List ℕ) (play : Play) (points : ℤ) → PlayIs board d line (line_tiles y) (Some play)
+    → points ≡ pos (score_of rules board play.tiles.items) → report rules board d line add items y ≡ add items (seen play points)
+report_one rules board d line add items y play points is score =
     let made : Given = seen play points in
-    let same : told_as rules board d line y ≡ made =
+    let same : reported_as rules board d line y ≡ made =
     sym
     (ap (λ (e : Dir). let g : Given = record { dir = e; tiles = play.tiles.items; score = points } in g) is.1
     ∙ ap (λ (p : ℤ). let g : Given = record { dir = d; tiles = play.tiles.items; score = p } in g) score
     ∙ ap (λ (ps : List Placed). let g : Given = record { dir = d; tiles = ps; score = pos (score_of rules board ps) } in g) is.2) in
-    ap (add_all add items) (told_by rules board d line y true is.0) ∙ ap (add items) same
+    ap (add_all add items) (reported_by rules board d line y true is.0) ∙ ap (add items) same
 
 pub took_one : {U E : Type 0} (r : Result U E) (rules : Rules) (board : List (Option Tile)) (d : Dir) (line : ℕ) (add : List Given → Given → List Given) (old new : List Given) (y : List ℕ) (play : Play) (points : ℤ)
     → PlayIs board d line (line_tiles y) (Some play) → points ≡ pos (score_of rules board play.tiles.items) → OnOk r (new ≡ add old (seen play points)) → OnErr r (new ≡ old)
-    → Took (tell rules board d line add) old (y ∷ []) new r
-took_one (Ok u) rules board d line add old new y play points is score taken refused = taken ∙ sym (tell_one rules board d line add old y play points is score)
+    → Took (report rules board d line add) old (y ∷ []) new r
+took_one (Ok u) rules board d line add old new y play points is score taken refused = taken ∙ sym (report_one rules board d line add old y play points is score)
 took_one (Err why) rules board d line add old new y play points is score taken refused =
     record { front = []; rest = y ∷ []; parts = refl; items = refused }

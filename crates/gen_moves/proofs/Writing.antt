@@ -52,11 +52,11 @@ put_none d line f n ps is none =
     is ∙ sym (put_more d line f n ∙ ap (λ (o : Option Tile). put_from d line f 0 n ++ placed_on (square_at d line n) o) none ∙ append-nil (put_from d line f 0 n))
 
 -- more than one tile is written along its line
-pub many_wanted : (d : Dir) (board : List (Option Tile)) (ps : List Placed) → RunsAlong d board ps → length ps ≤ 7 → 1 < length ps → is_wanted board d ps ≡ true
-many_wanted Across board ps runs few many = wanted_across board ps runs few
-many_wanted Down board [] runs few many = absurd (omega arith)
-many_wanted Down board (p ∷ []) runs few many = absurd (omega arith)
-many_wanted Down board (p ∷ q ∷ ps) runs few many = wanted_down board p q ps runs few
+pub count_wanted : (d : Dir) (board : List (Option Tile)) (ps : List Placed) → RunsAlong d board ps → length ps ≤ 7 → 1 < length ps → is_wanted board d ps ≡ true
+count_wanted Across board ps runs few many = wanted_across board ps runs few
+count_wanted Down board [] runs few many = absurd (omega arith)
+count_wanted Down board (p ∷ []) runs few many = absurd (omega arith)
+count_wanted Down board (p ∷ q ∷ ps) runs few many = wanted_down board p q ps runs few
 
 -- and a play is written so if its notation is
 pub wanted_as_written : (d : Dir) (board : List (Option Tile)) (ps : List Placed) (n : Written) → length board ≡ 225 → IsLegal board ps → RunsAlong d board ps → length ps ≤ 7

@@ -17,7 +17,7 @@ use Rattle.gen_line.specs.Cells.{cell_at, is_anchor_cell}
 use Rattle.gen_line.specs.Walk.{Every, anchor_moves}
 use Rattle.gen_moves.specs.declared.places.Place.{Place}
 use Rattle.gen_moves.specs.declared.stretches.Sum.{Sum}
-use Rattle.gen_moves.specs.Findings.{told}
+use Rattle.gen_moves.specs.Findings.{reported}
 use Rattle.gen_moves.specs.Closing.{AreOpen, IsPassable}
 
 -- the sum of what successive numbers give, and the product
@@ -145,13 +145,13 @@ HasScores rules board cross =
     → cross_score rules (other_dir d) board square t ≤ ((value_at cross d square).side + points_of rules t.kind * letter_factor (premium_at rules square)) * word_factor (premium_at rules square)
 
 -- each play that a move gives scores at most `bound`
-abbrev pub TellsUnder : Rules → List (Option Tile) → Dir → ℕ → List ℕ → ℕ → Type 0
-TellsUnder rules board d line y bound = Every (λ (given : Given). given.score ≤ℤ pos bound) (told rules board d line y)
+abbrev pub ReportsUnder : Rules → List (Option Tile) → Dir → ℕ → List ℕ → ℕ → Type 0
+ReportsUnder rules board d line y bound = Every (λ (given : Given). given.score ≤ℤ pos bound) (reported rules board d line y)
 
 -- what is known about a move of an anchor: its play exceeds no bound of the anchor
 abbrev pub IsOffer : Rules → ℕ → ℕ → List (Option Tile) → Dir → ℕ → List Cell → (ℕ → Place) → (ℕ → Bool) → ℕ → List ℕ → Type 0
 IsOffer rules points ones board d line cells places opens h y =
-    (bound : ℕ) → IsAnchorBound rules.bonus points ones cells places opens h bound → TellsUnder rules board d line y bound
+    (bound : ℕ) → IsAnchorBound rules.bonus points ones cells places opens h bound → ReportsUnder rules board d line y bound
 
 -- which holds for all moves of a line
 abbrev pub AreOffers : Rules → ℕ → ℕ → List (Option Tile) → (List ℕ → Bool) → List Cell → List ℕ → Dir → ℕ → Type 0

@@ -14,13 +14,13 @@ use Rattle.gen_line.specs.Model.{line_moves}
 use Rattle.gen_moves.specs.LineTiles.{tiles_of}
 
 -- what a line gives for the entries of a move
-unfoldable pub told : Rules → List (Option Tile) → Dir → ℕ → List ℕ → List Given
-told rules board d line y =
+unfoldable pub reported : Rules → List (Option Tile) → Dir → ℕ → List ℕ → List Given
+reported rules board d line y =
     if is_wanted board d (tiles_of d line y) then record { dir = d; tiles = tiles_of d line y; score = pos (score_of rules board (tiles_of d line y)) } ∷ [] else []
 
 -- what a line gives
 abbrev pub given_on : Rules → List (Option Tile) → (List ℕ → Bool) → (Dir → ℕ → List Cell) → List ℕ → Dir → ℕ → List Given
-given_on rules board g cells rack d line = flat_map (told rules board d line) (line_moves g (cells d line) rack)
+given_on rules board g cells rack d line = flat_map (reported rules board d line) (line_moves g (cells d line) rack)
 
 -- what all lines of a direction give
 abbrev pub given_along : Rules → List (Option Tile) → (List ℕ → Bool) → (Dir → ℕ → List Cell) → List ℕ → Dir → List Given

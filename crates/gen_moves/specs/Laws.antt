@@ -18,8 +18,8 @@ use Rattle.gen_moves.specs.LineTiles.{tiles_of, entries_of}
 use Rattle.gen_moves.specs.Findings.{given_by}
 
 -- a test of strings of labels accepts the words of a list
-abbrev pub TellsWords : (List ℕ → Bool) → List (List ℕ) → Type 0
-TellsWords listed words = (labels : List ℕ) → (listed labels ≡ true) ↔ Contains words (map letter_of labels)
+abbrev pub ReportsWords : (List ℕ → Bool) → List (List ℕ) → Type 0
+ReportsWords listed words = (labels : List ℕ) → (listed labels ≡ true) ↔ Contains words (map letter_of labels)
 
 -- each word has two letters or more
 abbrev pub AreLong : List (List ℕ) → Type 0
@@ -39,14 +39,14 @@ pub record IsCandidateOn (words : List (List ℕ)) (d : Dir) (board : List (Opti
 abbrev pub MovesAreCandidates : Type 0
 MovesAreCandidates =
     (words : List (List ℕ)) (d : Dir) (board : List (Option Tile)) (line : ℕ) (cells : List Cell) (listed : List ℕ → Bool) (rack y : List ℕ) (first len : ℕ)
-    → length board ≡ SQUARES → line < SIDE → IsLineOf words d board line cells → TellsWords listed words → AreLong words → length (tiles_of d line y) ≤ 7
+    → length board ≡ SQUARES → line < SIDE → IsLineOf words d board line cells → ReportsWords listed words → AreLong words → length (tiles_of d line y) ≤ 7
     → IsMove listed cells rack y first len ↔ (AreEntries y × IsCandidateOn words d board rack (tiles_of d line y) line first len)
 
 -- and each candidate on a line is what the entries of a move put down
 abbrev pub CandidatesAreMoves : Type 0
 CandidatesAreMoves =
     (words : List (List ℕ)) (d : Dir) (board : List (Option Tile)) (line : ℕ) (cells : List Cell) (listed : List ℕ → Bool) (rack : List ℕ) (ps : List Placed) (first len : ℕ)
-    → length board ≡ SQUARES → line < SIDE → IsLineOf words d board line cells → TellsWords listed words → IsCandidateOn words d board rack ps line first len
+    → length board ≡ SQUARES → line < SIDE → IsLineOf words d board line cells → ReportsWords listed words → IsCandidateOn words d board rack ps line first len
     → IsMove listed cells rack (entries_of d line ps) first len × (tiles_of d line (entries_of d line ps) ≡ ps)
 
 -- the lines of a board, a list of words, its test and that of the paths of its splits
@@ -54,7 +54,7 @@ pub record Setting (words : List (List ℕ)) (board : List (Option Tile)) (g lis
   pub size : length board ≡ SQUARES
   pub lines : (d : Dir) (line : ℕ) → line < SIDE → IsLineOf words d board line (cells d line)
   pub splits : AreSplits g listed
-  pub told : TellsWords listed words
+  pub reported : ReportsWords listed words
   pub long : AreLong words
 
 -- what the lines of a board give, in both directions, is all candidates, each once

@@ -2,7 +2,7 @@ pub mod BoardLines
 pub mod LineTiles
 pub mod Findings
 pub mod Laws
-pub mod Telling
+pub mod Reporting
 pub mod Bounds
 pub mod Closing
 pub mod Tallies

@@ -11,11 +11,11 @@ use Rattle.ref_play.specs.Best.{Given}
 use Rattle.gen_line.specs.declared.cells.Cell.{Cell}
 use Rattle.gen_line.specs.Walk.{Every, anchor_moves}
 use Rattle.gen_moves.specs.declared.starts.Start.{Start}
-use Rattle.gen_moves.specs.Findings.{told}
-use Rattle.gen_moves.specs.Telling.{IsFitMove}
+use Rattle.gen_moves.specs.Findings.{reported}
+use Rattle.gen_moves.specs.Reporting.{IsFitMove}
 use Rattle.gen_sinks.specs.Skips.{GoesDown}
 use Rattle.gen_moves.specs.declared.places.Place.{Place}
-use Rattle.gen_moves.specs.Bounds.{TellsUnder, ArePlaces}
+use Rattle.gen_moves.specs.Bounds.{ReportsUnder, ArePlaces}
 use Rattle.gen_moves.specs.Tallies.{IsTallied}
 use Rattle.gen_moves.specs.OldTiles.{IsSpelt}
 
@@ -39,14 +39,14 @@ AreStarts across down starts = (k : ℕ) (d : Start) → k < STARTS → IsStartO
 
 -- what a place of a line gives: the plays of the moves whose first covered anchor it is
 abbrev pub given_at : Rules → List (Option Tile) → (List ℕ → Bool) → (Dir → ℕ → List Cell) → List ℕ → Dir → ℕ → ℕ → List Given
-given_at rules board g cells rack d line h = flat_map (told rules board d line) (anchor_moves g (cells d line) rack h)
+given_at rules board g cells rack d line h = flat_map (reported rules board d line) (anchor_moves g (cells d line) rack h)
 
 abbrev pub given_from : Rules → List (Option Tile) → (List ℕ → Bool) → (Dir → ℕ → List Cell) → List ℕ → Start → List Given
 given_from rules board g cells rack s = given_at rules board g cells rack s.dir s.line s.place
 
 -- none of these plays exceeds a bound
 abbrev pub AreUnder : Rules → List (Option Tile) → (List ℕ → Bool) → List Cell → List ℕ → Dir → ℕ → ℕ → ℕ → Type 0
-AreUnder rules board g cells rack d line h bound = Every (λ y. TellsUnder rules board d line y bound) (anchor_moves g cells rack h)
+AreUnder rules board g cells rack d line h bound = Every (λ y. ReportsUnder rules board d line y bound) (anchor_moves g cells rack h)
 
 -- a play is written in a direction, as far as a sink distinguishes directions
 abbrev pub GoesAlong : Option (List (Option Tile)) → Dir → Given → Type 0

@@ -9,7 +9,7 @@ use Rattle.gen_moves.specs.declared.places.Place.{Place}
 use Rattle.ref_board.specs.declared.directions.Dir.{Dir}
 use Rattle.gen_moves.specs.declared.tallies.Tally.{Tally}
 use Rattle.gen_moves.specs.LineTiles.{line_tiles, new_tile}
-use Rattle.gen_moves.specs.Bounds.{total, times, free_count, IsSmall, TellsUnder}
+use Rattle.gen_moves.specs.Bounds.{total, times, free_count, IsSmall, ReportsUnder}
 
 -- the points of the new tile on a place; a blank has none
 abbrev pub points_at : Rules → (ℕ → Option Tile) → ℕ → ℕ
@@ -55,4 +55,4 @@ pub record IsTallied (rules : Rules) (board : List (Option Tile)) (d : Dir) (lin
   pub first : ℕ
   pub len : ℕ
   pub lies : LiesOn places (new_tile (line_tiles y)) first len
-  pub under : TellsUnder rules board d line y (tally rules places (new_tile (line_tiles y)) first len)
+  pub under : ReportsUnder rules board d line y (tally rules places (new_tile (line_tiles y)) first len)

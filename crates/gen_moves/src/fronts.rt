@@ -35,7 +35,7 @@ fn back_over<L: PathLex>(
 }
 
 /// The first place from a place on that has no old tile.
-pub fn behind_olds(cells: &[Cell; SIDE], place: usize) -> usize
+pub fn after_olds(cells: &[Cell; SIDE], place: usize) -> usize
     requires { place ≤ SIDE }
     ensures place { result ≡ place + length (olds (drop place cells.now)) }
     ensures inside { result ≤ SIDE }
@@ -44,7 +44,7 @@ pub fn behind_olds(cells: &[Cell; SIDE], place: usize) -> usize
         return place;
     }
     match &cells[place] {
-        Cell::Old(_) => behind_olds(cells, place + 1),
+        Cell::Old(_) => after_olds(cells, place + 1),
         Cell::Free(_) => place,
     }
 }

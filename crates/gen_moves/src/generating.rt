@@ -5,16 +5,16 @@ ghost use Rattle.ref_play.specs.Best.{Given, AreAll};
 ghost use Rattle.gen_cross.specs.Values.{IsRight};
 ghost use Rattle.gen_line.specs.Walk.{Took};
 ghost use Rattle.gen_sinks.specs.Sinks.{IsFor};
-ghost use Rattle.gen_moves.specs.{Laws.{AreLong}, Telling.{both_cells}, Bounds.{HasScores}, Starts.{IsGood, given_from}};
+ghost use Rattle.gen_moves.specs.{Laws.{AreLong}, Reporting.{both_cells}, Bounds.{HasScores}, Starts.{IsGood, given_from}};
 
 use crate::anchors::{all_bounds, rack_worth};
-use crate::fronts::{behind_olds, front_of};
+use crate::fronts::{after_olds, front_of};
 use crate::lines::all_cells;
 use crate::passing::passes;
 use crate::places::line_places;
+use crate::reporting::LinePlays;
 use crate::spots::Spot;
 use crate::starts::{STARTS, Start, all_starts, best_first};
-use crate::telling::LinePlays;
 use gen_cross::Cross;
 use gen_line::{Cell, walk_anchor};
 use gen_sinks::{NoMemory, Sink};
@@ -73,7 +73,7 @@ impl<L: PathLex> Finder<'_, L> {
         let Some(at) = front_of(self.lex, cells, place + 1) else {
             return Ok(());
         };
-        let last = behind_olds(cells, place + 1) - 1;
+        let last = after_olds(cells, place + 1) - 1;
         let spot = Spot {
             board: self.board,
             dir,

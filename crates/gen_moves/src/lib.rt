@@ -11,11 +11,11 @@ mod laws;
 mod lines;
 mod passing;
 mod places;
+mod reporting;
 mod spots;
 mod starts;
 mod stretches;
 mod tallies;
-mod telling;
 
 pub use gen_sinks::{All, Best, NoMemory, Sink, Top};
 pub use generating::generate;

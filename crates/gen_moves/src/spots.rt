@@ -3,7 +3,7 @@ ghost use Rattle.std.specs.Prelude.{◌≡◌, ◌<◌};
 ghost use Rattle.ref_play.specs.Legality.{IsLegal};
 ghost use Rattle.ref_play.specs.Directions.{is_wanted, RunsAlong};
 ghost use Rattle.gen_moves.specs.LineTiles.{placement_of};
-ghost use Rattle.gen_moves.specs.Telling.{IsFit, PlayIs};
+ghost use Rattle.gen_moves.specs.Reporting.{IsFit, PlayIs};
 
 use crate::entries::LineTiles;
 use arrayvec::ArrayVec;

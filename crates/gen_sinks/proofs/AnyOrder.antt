@@ -14,17 +14,17 @@ take_less zero zs = refl
 take_less (suc n) [] = refl
 take_less (suc n) (z ∷ zs) = ap (λ ys. z ∷ ys) (take_less n zs)
 
-take_behind : {A : Type 0} (n : ℕ) (z : A) (zs : List A) → take n (z ∷ take n zs) ≡ take n (z ∷ zs)
-take_behind zero z zs = refl
-take_behind (suc n) z zs = ap (λ ys. z ∷ ys) (take_less n zs)
+take_after : {A : Type 0} (n : ℕ) (z : A) (zs : List A) → take n (z ∷ take n zs) ≡ take n (z ∷ zs)
+take_after zero z zs = refl
+take_after (suc n) z zs = ap (λ ys. z ∷ ys) (take_less n zs)
 
 -- ---- two elements, one of which comes before the other
 module _ {A : Type 0} (before : A → A → Bool) where
   put_before : (x k : A) (ks : List A) → before x k ≡ true → put_in before x (k ∷ ks) ≡ x ∷ k ∷ ks
   put_before x k ks e = rw e refl
 
-  put_behind : (x k : A) (ks : List A) → before x k ≡ false → put_in before x (k ∷ ks) ≡ k ∷ put_in before x ks
-  put_behind x k ks e = rw e refl
+  put_after : (x k : A) (ks : List A) → before x k ≡ false → put_in before x (k ∷ ks) ≡ k ∷ put_in before x ks
+  put_after x k ks e = rw e refl
 
   -- what is beyond the first `n` does not matter for them
   put_front : (n : ℕ) (x : A) (zs : List A) → take n (put_in before x (take n zs)) ≡ take n (put_in before x zs)
@@ -33,9 +33,9 @@ module _ {A : Type 0} (before : A → A → Bool) where
   put_front (suc n) x (z ∷ zs) =
       ⊎_elim
       (λ (e : before x z ≡ true).
-      ap (take (suc n)) (put_before x z (take n zs) e) ∙ ap (λ ys. x ∷ ys) (take_behind n z zs) ∙ sym (ap (take (suc n)) (put_before x z zs e)))
+      ap (take (suc n)) (put_before x z (take n zs) e) ∙ ap (λ ys. x ∷ ys) (take_after n z zs) ∙ sym (ap (take (suc n)) (put_before x z zs e)))
       (λ (e : before x z ≡ false).
-      ap (take (suc n)) (put_behind x z (take n zs) e) ∙ ap (λ ys. z ∷ ys) (put_front n x zs) ∙ sym (ap (take (suc n)) (put_behind x z zs e)))
+      ap (take (suc n)) (put_after x z (take n zs) e) ∙ ap (λ ys. z ∷ ys) (put_front n x zs) ∙ sym (ap (take (suc n)) (put_after x z zs e)))
       (cases_Bool (before x z))
 
 module _ {A : Type 0} (before : A → A → Bool) (trans : (a b c : A) → before a b ≡ true → before b c ≡ true → before a c ≡ true) (never : (a : A) → before a a ≡ true → ⊥) where
@@ -44,24 +44,24 @@ module _ {A : Type 0} (before : A → A → Bool) (trans : (a b c : A) → befor
       ⊎_elim (λ (back : before y x ≡ true). absurd (never x (trans x y x e back))) (λ (no : before y x ≡ false). no) (cases_Bool (before y x))
 
   put_swap : (x y : A) → before x y ≡ true → (ks : List A) → put_in before y (put_in before x ks) ≡ put_in before x (put_in before y ks)
-  put_swap x y e [] = put_behind before y x [] (not_back x y e) ∙ sym (put_before before x y [] e)
+  put_swap x y e [] = put_after before y x [] (not_back x y e) ∙ sym (put_before before x y [] e)
   put_swap x y e (k ∷ ks) =
       ⊎_elim
       (λ (a : before x k ≡ true).
       ⊎_elim
       (λ (b : before y k ≡ true).
-      ap (put_in before y) (put_before before x k ks a) ∙ put_behind before y x (k ∷ ks) (not_back x y e) ∙ ap (λ zs. x ∷ zs) (put_before before y k ks b)
+      ap (put_in before y) (put_before before x k ks a) ∙ put_after before y x (k ∷ ks) (not_back x y e) ∙ ap (λ zs. x ∷ zs) (put_before before y k ks b)
       ∙ sym (ap (put_in before x) (put_before before y k ks b) ∙ put_before before x y (k ∷ ks) e))
       (λ (b : before y k ≡ false).
-      ap (put_in before y) (put_before before x k ks a) ∙ put_behind before y x (k ∷ ks) (not_back x y e) ∙ ap (λ zs. x ∷ zs) (put_behind before y k ks b)
-      ∙ sym (ap (put_in before x) (put_behind before y k ks b) ∙ put_before before x k (put_in before y ks) a))
+      ap (put_in before y) (put_before before x k ks a) ∙ put_after before y x (k ∷ ks) (not_back x y e) ∙ ap (λ zs. x ∷ zs) (put_after before y k ks b)
+      ∙ sym (ap (put_in before x) (put_after before y k ks b) ∙ put_before before x k (put_in before y ks) a))
       (cases_Bool (before y k)))
       (λ (a : before x k ≡ false).
       ⊎_elim
       (λ (b : before y k ≡ true). absurd (false≢true (sym a ∙ trans x y k e b)))
       (λ (b : before y k ≡ false).
-      ap (put_in before y) (put_behind before x k ks a) ∙ put_behind before y k (put_in before x ks) b ∙ ap (λ zs. k ∷ zs) (put_swap x y e ks)
-      ∙ sym (ap (put_in before x) (put_behind before y k ks b) ∙ put_behind before x k (put_in before y ks) a))
+      ap (put_in before y) (put_after before x k ks a) ∙ put_after before y k (put_in before x ks) b ∙ ap (λ zs. k ∷ zs) (put_swap x y e ks)
+      ∙ sym (ap (put_in before x) (put_after before y k ks b) ∙ put_after before x k (put_in before y ks) a))
       (cases_Bool (before y k)))
       (cases_Bool (before x k))
 

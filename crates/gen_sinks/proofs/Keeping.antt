@@ -18,12 +18,12 @@ module _ {A B : Type 0} (before : B → B → Bool) (f : A → B) (x : B) where
   -- an element comes before none of the first `i`, and before the next one if there is one
   pub put_there : (ys : List A) (i : ℕ) → i ≤ length ys → ((k : ℕ) (d : A) → k < i → before x (f (get_or ys k d)) ≡ false)
       → ((d : A) → i < length ys → before x (f (get_or ys i d)) ≡ true) → put_in before x (map f ys) ≡ insert (map f ys) i x
-  put_there [] zero inside behind first = refl
-  put_there [] (suc i) inside behind first = absurd (omega arith)
-  put_there (y ∷ ys) zero inside behind first = rw (first y (omega arith)) refl
-  put_there (y ∷ ys) (suc i) inside behind first =
-      let rest = put_there ys i (omega arith) (λ k d lt. behind (suc k) d (omega arith)) (λ d lt. first d (omega arith)) in
-      rw (behind 0 y (omega arith)) (ap (λ zs. f y ∷ zs) rest)
+  put_there [] zero inside following first = refl
+  put_there [] (suc i) inside following first = absurd (omega arith)
+  put_there (y ∷ ys) zero inside following first = rw (first y (omega arith)) refl
+  put_there (y ∷ ys) (suc i) inside following first =
+      let rest = put_there ys i (omega arith) (λ k d lt. following (suc k) d (omega arith)) (λ d lt. first d (omega arith)) in
+      rw (following 0 y (omega arith)) (ap (λ zs. f y ∷ zs) rest)
 
 -- ---- room for an element
 seen_take : {A B : Type 0} (f : A → B) (n : ℕ) (ys : List A) → map f (take n ys) ≡ take n (map f ys)
@@ -55,11 +55,11 @@ pub insert_room : {A : Type 0} (n : ℕ) (ys : List A) (i : ℕ) (a : A) → len
 insert_room n ys i a room inside = let long = length-insert ys i a inside in sym (take_all n (insert ys i a) (omega arith))
 
 -- and after all of a full one there is none
-pub insert_behind : {A : Type 0} (n : ℕ) (ys : List A) (a : A) → length ys ≡ n → ys ≡ take n (insert ys n a)
-insert_behind zero [] a full = refl
-insert_behind zero (y ∷ ys) a full = absurd (omega arith)
-insert_behind (suc n) [] a full = absurd (omega arith)
-insert_behind (suc n) (y ∷ ys) a full = ap (λ zs. y ∷ zs) (insert_behind n ys a (omega arith))
+pub insert_after : {A : Type 0} (n : ℕ) (ys : List A) (a : A) → length ys ≡ n → ys ≡ take n (insert ys n a)
+insert_after zero [] a full = refl
+insert_after zero (y ∷ ys) a full = absurd (omega arith)
+insert_after (suc n) [] a full = absurd (omega arith)
+insert_after (suc n) (y ∷ ys) a full = ap (λ zs. y ∷ zs) (insert_after n ys a (omega arith))
 
 -- ---- plays that are legal
 is_none-from : (o : Option PlayFault) → is_none o ≡ true → o ≡ None

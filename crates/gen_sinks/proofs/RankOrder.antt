@@ -19,7 +19,7 @@ use Rattle.ref_play.specs.Scores.{score_of}
 use Rattle.ref_play.specs.Candidates.{IsCandidate}
 use Rattle.ref_play.specs.Best.{Given, given_of, Outranks, IsAnnotation, AreAll}
 use Rattle.ref_play.proofs.RangeLaws.{Contains-cases, Contains-here}
-use Rattle.ref_play.proofs.Naming.{notation_tells}
+use Rattle.ref_play.proofs.Naming.{notation_differs}
 use Rattle.ref_play.proofs.Ordering.{written_total, written_exact}
 use Rattle.gen_sinks.specs.Ranks.{rank_cmp, ranks_before, add_top, AreFirst, head_of}
 use Rattle.gen_sinks.proofs.Ranking.{first_more, first_none, first_unique}
@@ -75,7 +75,7 @@ ranks_total rules words board rack a b size scored_a scored_b differ = by (rank_
       let v = notation_of board a.tiles in
       let w = notation_of board b.tiles in
       let same = written_exact v w (both_tied (int_cmp b.score a.score) (written_cmp v w) e) in
-      let tiles = notation_tells scored_a.0.play.0 scored_b.0.play.0 board a.tiles b.tiles size scored_a.0.play.1 scored_b.0.play.1 scored_a.0.legal scored_b.0.legal same in
+      let tiles = notation_differs scored_a.0.play.0 scored_b.0.play.0 board a.tiles b.tiles size scored_a.0.play.1 scored_b.0.play.1 scored_a.0.legal scored_b.0.legal same in
       absurd (differ (scored_a.1 ∙ ap (given_of rules board) tiles ∙ sym scored_b.1))
 
 pos_less : (m n : ℕ) → pos m <ℤ pos n → m < n

@@ -63,11 +63,11 @@ module _ {A : Type 0} (before : A → A → Bool) where
   front_ordered (suc n) (x ∷ xs) h = (λ y c. h.0 y (front_in n xs y c), front_ordered n xs h.1)
 
   -- each element of a list in order is in the front, or comes after all of a full front
-  front_or_behind : (n : ℕ) (xs : List A) (z : A) → InOrder before xs → Contains xs z
+  front_or_after : (n : ℕ) (xs : List A) (z : A) → InOrder before xs → Contains xs z
       → Contains (take n xs) z ⊎ ((length (take n xs) ≡ n) × ((k : A) → Contains (take n xs) k → before k z ≡ true))
-  front_or_behind zero xs z o h = inr (refl, λ k c. absurd (none k c))
-  front_or_behind (suc n) [] z o h = absurd (none z h)
-  front_or_behind (suc n) (x ∷ xs) z o h =
+  front_or_after zero xs z o h = inr (refl, λ k c. absurd (none k c))
+  front_or_after (suc n) [] z o h = absurd (none z h)
+  front_or_after (suc n) (x ∷ xs) z o h =
       ⊎_elim
       (λ (e : x ≡ z). inl (subst (λ (w : A). Contains (x ∷ take n xs) w) e (Contains-here x (take n xs))))
       (λ (rest : Contains xs z).
@@ -78,7 +78,7 @@ module _ {A : Type 0} (before : A → A → Bool) where
         ap suc full.0,
         λ k c. ⊎_elim (λ (e : x ≡ k). subst (λ (w : A). before w z ≡ true) e (o.0 z rest)) (λ (r : Contains (take n xs) k). full.1 k r) (Contains-cases x (take n xs) k c),
       ))
-      (front_or_behind n xs z o.1 rest))
+      (front_or_after n xs z o.1 rest))
       (Contains-cases x xs z h)
 
   -- in a full front with one more element, it is an old one, or some old one comes after it
@@ -115,14 +115,14 @@ module _ {A : Type 0} (before : A → A → Bool) where
           (λ z c. ⊎_elim (λ (e : x ≡ z). subst (λ (w : A). before y w ≡ true) e after) (λ (r : Contains ys z). o.0 z r) (put_cases x ys z c), more)
 
     -- all of a full front with one more element come before what all old ones come before
-    still_behind : (n : ℕ) (x : A) (kept : List A) (z : A) → length kept ≡ n → ((k : A) → Contains kept k → before k z ≡ true)
+    still_after : (n : ℕ) (x : A) (kept : List A) (z : A) → length kept ≡ n → ((k : A) → Contains kept k → before k z ≡ true)
         → (k : A) → Contains (take n (put_in before x kept)) k → before k z ≡ true
-    still_behind n x kept z full behind k h =
+    still_after n x kept z full following k h =
         let found : Contains (take (length kept) (put_in before x kept)) k = subst (λ (m : ℕ). Contains (take m (put_in before x kept)) k) (sym full) h in
         ⊎_elim
-        (λ (old : Contains kept k). behind k old)
+        (λ (old : Contains kept k). following k old)
         (λ (new : (x ≡ k) × (y : A) × Contains kept y × (before x y ≡ true)).
-        subst (λ (w : A). before w z ≡ true) new.0 (trans x new.1 z new.3 (behind new.1 new.2)))
+        subst (λ (w : A). before w z ≡ true) new.0 (trans x new.1 z new.3 (following new.1 new.2)))
         (pushes_out x kept k found)
 
     -- ---- one more element
@@ -141,11 +141,11 @@ module _ {A : Type 0} (before : A → A → Bool) where
           others = λ z c. ⊎_elim
               (λ (there : Contains all z).
               ⊎_elim
-              (λ (old : Contains kept z). front_or_behind n put z ordered (put_old x kept z old))
+              (λ (old : Contains kept z). front_or_after n put z ordered (put_old x kept z old))
               (λ (full : (length kept ≡ n) × ((k : A) → Contains kept k → before k z ≡ true)).
-              inr (length-take-le n put (let long = put_length x kept in let few = full.0 in omega arith), still_behind n x kept z full.0 full.1))
+              inr (length-take-le n put (let long = put_length x kept in let few = full.0 in omega arith), still_after n x kept z full.0 full.1))
               (first.others z there))
-              (λ (e : x ≡ z). front_or_behind n put z ordered (subst (λ (w : A). Contains put w) e (put_new x kept)))
+              (λ (e : x ≡ z). front_or_after n put z ordered (subst (λ (w : A). Contains put w) e (put_new x kept)))
               (Contains-push_cases all x z c);
         }
 
@@ -158,7 +158,7 @@ module _ {A : Type 0} (before : A → A → Bool) where
         some = λ z c. first.some z (front_in n kept z c);
         others = λ z c.
             ⊎_elim
-            (λ (has : Contains kept z). front_or_behind n kept z first.ordered has)
+            (λ (has : Contains kept z). front_or_after n kept z first.ordered has)
             (λ (full : (length kept ≡ many) × ((k : A) → Contains kept k → before k z ≡ true)).
             inr (let long = full.0 in length-take-le n kept (omega arith), λ k front. full.1 k (front_in n kept k front)))
             (first.others z c);
@@ -174,8 +174,8 @@ module _ {A : Type 0} (before : A → A → Bool) where
     not_both a b p q = never a (trans a b a p q)
 
     -- what is in a list after its first element, if it comes after some element of the list
-    behind_first : (x y : A) (ys : List A) → InOrder before (y ∷ ys) → Contains (y ∷ ys) x → (z : A) → before x z ≡ true → Contains (y ∷ ys) z → Contains ys z
-    behind_first x y ys o there z after h =
+    after_first : (x y : A) (ys : List A) → InOrder before (y ∷ ys) → Contains (y ∷ ys) x → (z : A) → before x z ≡ true → Contains (y ∷ ys) z → Contains ys z
+    after_first x y ys o there z after h =
         ⊎_elim
         (λ (e : y ≡ z).
         let first : before x y ≡ true = subst (λ (w : A). before x w ≡ true) (sym e) after in
@@ -191,7 +191,7 @@ module _ {A : Type 0} (before : A → A → Bool) where
     no_longer [] ys o p h = omega arith
     no_longer (x ∷ xs) [] o p h = absurd (none x (h x (Contains-here x xs)))
     no_longer (x ∷ xs) (y ∷ ys) o p h =
-        let rest = no_longer xs ys o.1 p.1 (λ z c. behind_first x y ys p (h x (Contains-here x xs)) z (o.0 z c) (h z (Contains-there x xs z c))) in
+        let rest = no_longer xs ys o.1 p.1 (λ z c. after_first x y ys p (h x (Contains-here x xs)) z (o.0 z c) (h z (Contains-there x xs z c))) in
         omega arith
 
     -- two lists in order with the same elements are equal
@@ -208,8 +208,8 @@ module _ {A : Type 0} (before : A → A → Bool) where
         (Contains-cases y ys x (h x (Contains-here x xs))) in
         let rest : xs ≡ ys =
         one_list xs ys o.1 p.1
-        (λ z c. behind_first x y ys p (h x (Contains-here x xs)) z (o.0 z c) (h z (Contains-there x xs z c)))
-        (λ z c. behind_first y x xs o (g y (Contains-here y ys)) z (p.0 z c) (g z (Contains-there y ys z c))) in
+        (λ z c. after_first x y ys p (h x (Contains-here x xs)) z (o.0 z c) (h z (Contains-there x xs z c)))
+        (λ z c. after_first y x xs o (g y (Contains-here y ys)) z (p.0 z c) (g z (Contains-there y ys z c))) in
         λ i. same i ∷ rest i
 
     -- a list with one more element, after all of it, is in order
@@ -230,7 +230,7 @@ module _ {A : Type 0} (before : A → A → Bool) where
         let kept_too : (k : A) → Contains held k → Contains kept k = λ k h.
         ⊎_elim
         (λ (there : Contains kept k). there)
-        (λ (behind : (length kept ≡ n) × ((j : A) → Contains kept j → before j k ≡ true)). absurd (not_both z k (behind.1 z c) (full.1 k h)))
+        (λ (following : (length kept ≡ n) × ((j : A) → Contains kept j → before j k ≡ true)). absurd (not_both z k (following.1 z c) (full.1 k h)))
         (first.others k (from k (other.some k h))) in
         let long = length-append held (z ∷ []) in
         let few = first.few in

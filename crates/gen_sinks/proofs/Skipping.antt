@@ -14,7 +14,7 @@ use Rattle.ref_play.specs.Best.{Given}
 use Rattle.gen_sinks.specs.Sinks.{seen_pair}
 use Rattle.gen_sinks.specs.Ranks.{ranks_before, add_top}
 use Rattle.gen_sinks.specs.Skips.{AllAbove, IsBeforeDown, AllBeforeDown, GoesDown}
-use Rattle.gen_sinks.proofs.Keeping.{put_there, insert_behind}
+use Rattle.gen_sinks.proofs.Keeping.{put_there, insert_after}
 
 -- a play that scores less than another does not rank before it
 lower : (x y : ℤ) (o p : Ordering) → int_cmp y x ≡ o → x <ℤ y → is_lt (ordering_then o p) ≡ false
@@ -34,17 +34,17 @@ still_kept n board kept bound given full above low =
     (λ k d lt. not_before board given (seen_pair (get_or kept k d)) (let more = above k d lt in omega (arith, ints)))
     (λ d lt. absurd (omega arith)))
     ∙ ap (λ m. take n (insert (map seen_pair kept) m given)) full
-    ∙ sym (insert_behind n (map seen_pair kept) given size)
+    ∙ sym (insert_after n (map seen_pair kept) given size)
 
 -- ---- plays that are written down
 -- a play that scores less than another, or as much and comes after it
 no_higher : (x y : ℤ) (o p : Ordering) → int_cmp y x ≡ o → x ≤ℤ y → is_lt p ≡ false → is_lt (ordering_then o p) ≡ false
-no_higher x y Less p e le behind = absurd (let more : y <ℤ x = int_ranked y x Less (sym e) in omega (arith, ints))
-no_higher x y Equal p e le behind = behind
-no_higher x y Greater p e le behind = refl
+no_higher x y Less p e le following = absurd (let more : y <ℤ x = int_ranked y x Less (sym e) in omega (arith, ints))
+no_higher x y Equal p e le following = following
+no_higher x y Greater p e le following = refl
 
-down_behind : (a b : Written) → a.dir ≡ Down → b.dir ≡ Across → is_lt (written_cmp a b) ≡ false
-down_behind a b down across = rw (down, across) refl
+down_after : (a b : Written) → a.dir ≡ Down → b.dir ≡ Across → is_lt (written_cmp a b) ≡ false
+down_after a b down across = rw (down, across) refl
 
 not_before_down : (board : List (Option Tile)) (bound : ℤ) (given : Given) (kept : Play × ℤ) → GoesDown (Some board) given → given.score ≤ℤ bound → IsBeforeDown board bound kept
     → ranks_before board given (seen_pair kept) ≡ false
@@ -54,7 +54,7 @@ not_before_down board bound given kept down low before =
     (λ as_much.
     let same : kept.1 ≡ bound = as_much.0 in
     no_higher given.score kept.1 (int_cmp kept.1 given.score) (written_cmp (notation_of board given.tiles) (notation_of board kept.0.tiles.items)) refl (omega (arith, ints))
-    (down_behind (notation_of board given.tiles) (notation_of board kept.0.tiles.items) down as_much.1))
+    (down_after (notation_of board given.tiles) (notation_of board kept.0.tiles.items) down as_much.1))
     before
 
 pub still_kept_down : (n : ℕ) (board : List (Option Tile)) (kept : List (Play × ℤ)) (bound : ℤ) (given : Given) → length kept ≡ n → AllBeforeDown board bound kept → GoesDown (Some board) given
@@ -66,4 +66,4 @@ still_kept_down n board kept bound given full before down low =
     (λ k d lt. not_before_down board bound given (get_or kept k d) down low (before k d lt))
     (λ d lt. absurd (omega arith)))
     ∙ ap (λ m. take n (insert (map seen_pair kept) m given)) full
-    ∙ sym (insert_behind n (map seen_pair kept) given size)
+    ∙ sym (insert_after n (map seen_pair kept) given size)

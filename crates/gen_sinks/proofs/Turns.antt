@@ -44,26 +44,26 @@ module _ (board : List (Option Tile)) where
   last_or-at p [] d = refl
   last_or-at p (q ∷ qs) d = last_or-at q qs d
 
-  all_behind : (x : Given) (p : Play × ℤ) (ps : List (Play × ℤ)) → IsTrue (in_turn (ranks_before board) (map seen_pair (p ∷ ps)))
+  all_after : (x : Given) (p : Play × ℤ) (ps : List (Play × ℤ)) → IsTrue (in_turn (ranks_before board) (map seen_pair (p ∷ ps)))
       → ranks_before board x (seen_pair (last_or p ps)) ≡ false → (place : ℕ) (d : Play × ℤ) → place < length (p ∷ ps)
       → ranks_before board x (seen_pair (get_or (p ∷ ps) place d)) ≡ false
   unfolding in_turn
-  all_behind x p [] turn behind zero d lt = behind
-  all_behind x p [] turn behind (suc place) d lt = absurd (omega arith)
-  all_behind x p (q ∷ qs) turn behind zero d lt =
+  all_after x p [] turn following zero d lt = following
+  all_after x p [] turn following (suc place) d lt = absurd (omega arith)
+  all_after x p (q ∷ qs) turn following zero d lt =
       let parts = and_parts (not (ranks_before board (seen_pair q) (seen_pair p))) (in_turn (ranks_before board) (map seen_pair (q ∷ qs))) turn in
-      not_first x (seen_pair p) (seen_pair q) (not_so (ranks_before board (seen_pair q) (seen_pair p)) parts.0) (all_behind x q qs parts.1 behind zero d (omega arith))
-  all_behind x p (q ∷ qs) turn behind (suc place) d lt =
+      not_first x (seen_pair p) (seen_pair q) (not_so (ranks_before board (seen_pair q) (seen_pair p)) parts.0) (all_after x q qs parts.1 following zero d (omega arith))
+  all_after x p (q ∷ qs) turn following (suc place) d lt =
       let parts = and_parts (not (ranks_before board (seen_pair q) (seen_pair p))) (in_turn (ranks_before board) (map seen_pair (q ∷ qs))) turn in
-      all_behind x q qs parts.1 behind place d (omega arith)
+      all_after x q qs parts.1 following place d (omega arith)
 
-  pub behind_last : (x : Given) (kept : List (Play × ℤ)) (last : Play × ℤ) → IsTrue (in_turn (ranks_before board) (map seen_pair kept)) → last ≡ get_or kept (length kept - 1) last
+  pub after_last : (x : Given) (kept : List (Play × ℤ)) (last : Play × ℤ) → IsTrue (in_turn (ranks_before board) (map seen_pair kept)) → last ≡ get_or kept (length kept - 1) last
       → ranks_before board x (seen_pair last) ≡ false → (place : ℕ) (d : Play × ℤ) → place < length kept → ranks_before board x (seen_pair (get_or kept place d)) ≡ false
-  behind_last x [] last turn is behind place d lt = absurd (omega arith)
-  behind_last x (p ∷ ps) last turn is behind place d lt =
+  after_last x [] last turn is following place d lt = absurd (omega arith)
+  after_last x (p ∷ ps) last turn is following place d lt =
       let at : length (p ∷ ps) - 1 ≡ length ps = omega arith in
       let found : last ≡ last_or p ps = is ∙ ap (λ i. get_or (p ∷ ps) i last) at ∙ last_or-at p ps last in
-      all_behind x p ps turn (ap (λ (one : Play × ℤ). ranks_before board x (seen_pair one)) (sym found) ∙ behind) place d lt
+      all_after x p ps turn (ap (λ (one : Play × ℤ). ranks_before board x (seen_pair one)) (sym found) ∙ following) place d lt
 
   -- ---- one more element
   put_leads : (x y : Given) (ys : List Given) → may_lead (ranks_before board) y ys ≡ true → ranks_before board x y ≡ false

@@ -19,4 +19,4 @@ pub use trees::{
     name_tree, null_tree, object, push_if, size_tree, str_tree, string_tree, text_tree, wide_tree,
     with_field_if,
 };
-pub use writing::{line_of, push_line, push_tree};
+pub use writing::{line_of, push_tree, push_tree_line};

@@ -104,7 +104,7 @@ pub fn push_tree(text: &mut Vec<u8>, tree: &Tree) -> Result<(), AllocError>
 /// # Errors
 ///
 /// Memory was refused.
-pub fn push_line(text: &mut Vec<u8>, tree: &Tree) -> Result<(), AllocError>
+pub fn push_tree_line(text: &mut Vec<u8>, tree: &Tree) -> Result<(), AllocError>
     ensures { OnOk result (text.new.items ≡ text.old.items ++ json_line (view tree.now)) }
 {
     push_tree(text, tree)?;
@@ -121,6 +121,6 @@ pub fn line_of(alloc: Global, tree: &Tree) -> Result<Vec<u8>, AllocError>
     ensures { IfOk result (λ line. line.items ≡ json_line (view tree.now)) }
 {
     let mut line = Vec::new(alloc);
-    push_line(&mut line, tree)?;
+    push_tree_line(&mut line, tree)?;
     Ok(line)
 }

@@ -13,7 +13,7 @@ use Rattle.lex_file.specs.Files.{number_of, IsNextNode}
 use Rattle.lex_file.specs.Languages.{file_tail}
 use Rattle.lex_file.specs.Lexicons.{is_label}
 use Rattle.lex_file.specs.Shapes.{file_node, is_file_node, fault_of}
-use Rattle.lex_file.specs.SoundFiles.{file_labels, sound}
+use Rattle.lex_file.specs.laws.Files.{file_labels, sound}
 use Rattle.lex_file.specs.Graphs.{none_of_zero}
 use Rattle.lex_file.specs.Walking.{next_strings}
 use Rattle.lex_agree.specs.Counts.{HasAtMost, most_counted, slot_of, IsCount, IsCountedBy, AreCountedBeside, IsCounted, IsCountedThere, AreCountedBelow, IsFirstTable, IsPut}
@@ -56,48 +56,48 @@ alone_there true label e = (0, omega arith, refl)
 alone_there false label e = absurd (false≢true e)
 
 -- strings with a label in front
-abbrev behind_label : ℕ → List (List ℕ) → List (List ℕ)
-behind_label label strings = map (λ (string : List ℕ). label ∷ string) strings
+abbrev after_label : ℕ → List (List ℕ) → List (List ℕ)
+after_label label strings = map (λ (string : List ℕ). label ∷ string) strings
 
-behind_there : (label : ℕ) (string : List ℕ) (strings : List (List ℕ)) → Contains strings string → Contains (behind_label label strings) (label ∷ string)
-behind_there label string [] has = absurd (omega (arith, has.1))
-behind_there label string (first ∷ strings) (zero, lt, at) = (0, omega arith, ap (λ (rest : List ℕ). label ∷ rest) at)
-behind_there label string (first ∷ strings) (suc place, lt, at) =
-    let rest = behind_there label string strings (place, omega arith, at) in
+after_there : (label : ℕ) (string : List ℕ) (strings : List (List ℕ)) → Contains strings string → Contains (after_label label strings) (label ∷ string)
+after_there label string [] has = absurd (omega (arith, has.1))
+after_there label string (first ∷ strings) (zero, lt, at) = (0, omega arith, ap (λ (rest : List ℕ). label ∷ rest) at)
+after_there label string (first ∷ strings) (suc place, lt, at) =
+    let rest = after_there label string strings (place, omega arith, at) in
     (suc (rest.0), omega (arith, rest.1), rest.2)
 
 -- one more label with which strings begin
-pub label_more : (has behind : List ℕ → Bool) (from label count more sum : ℕ) (accepts : Bool) → from ≤ label
+pub label_more : (has following : List ℕ → Bool) (from label count more sum : ℕ) (accepts : Bool) → from ≤ label
     → ((l : ℕ) → from ≤ l → l < label → (rest : List ℕ) → has (l ∷ rest) ≡ false) → accepts ≡ has (label ∷ [])
-    → ((after : ℕ) (rest : List ℕ) → has (label ∷ after ∷ rest) ≡ behind (after ∷ rest))
-    → IsCount (has_below has from) count → IsCount behind more → (sum < most_counted → sum ≡ count + more + cond accepts 1 0)
+    → ((after : ℕ) (rest : List ℕ) → has (label ∷ after ∷ rest) ≡ following (after ∷ rest))
+    → IsCount (has_below has from) count → IsCount following more → (sum < most_counted → sum ≡ count + more + cond accepts 1 0)
     → IsCount (has_below has (label + 1)) sum
-label_more has behind from label count more sum accepts reached passed ends longer before there is low =
+label_more has following from label count more sum accepts reached passed ends longer before there is low =
     let total = is low in
     let one = before (omega arith) in
     let two = there (omega arith) in
     let one_few = one.few in
     let two_few = two.few in
-    let own = alone accepts label ++ behind_label label two.strings in
-    let own_size = length-append (alone accepts label) (behind_label label two.strings) in
+    let own = alone accepts label ++ after_label label two.strings in
+    let own_size = length-append (alone accepts label) (after_label label two.strings) in
     let alone_is = alone_size accepts label in
-    let behind_size = length-map two.strings (λ (string : List ℕ). label ∷ string) in
+    let after_size = length-map two.strings (λ (string : List ℕ). label ∷ string) in
     let whole = length-append one.strings own in
     record { strings = one.strings ++ own; all = all one two; few = omega arith }
   where
-    here : (two : HasAtMost behind more) (rest : List ℕ) → has (label ∷ rest) ≡ true → Contains (alone accepts label ++ behind_label label two.strings) (label ∷ rest)
-    here two [] e = Contains-append_left (alone accepts label) (behind_label label two.strings) (label ∷ []) (alone_there accepts label (ends ∙ e))
+    here : (two : HasAtMost following more) (rest : List ℕ) → has (label ∷ rest) ≡ true → Contains (alone accepts label ++ after_label label two.strings) (label ∷ rest)
+    here two [] e = Contains-append_left (alone accepts label) (after_label label two.strings) (label ∷ []) (alone_there accepts label (ends ∙ e))
     here two (after ∷ rest) e =
-        Contains-append_right (alone accepts label) (behind_label label two.strings) (label ∷ after ∷ rest)
-        (behind_there label (after ∷ rest) two.strings (two.all (after ∷ rest) (sym (longer after rest) ∙ e)))
+        Contains-append_right (alone accepts label) (after_label label two.strings) (label ∷ after ∷ rest)
+        (after_there label (after ∷ rest) two.strings (two.all (after ∷ rest) (sym (longer after rest) ∙ e)))
 
-    all : (one : HasAtMost (has_below has from) count) (two : HasAtMost behind more) (string : List ℕ) → has_below has (label + 1) string ≡ true
-        → Contains (one.strings ++ (alone accepts label ++ behind_label label two.strings)) string
+    all : (one : HasAtMost (has_below has from) count) (two : HasAtMost following more) (string : List ℕ) → has_below has (label + 1) string ≡ true
+        → Contains (one.strings ++ (alone accepts label ++ after_label label two.strings)) string
     all one two [] e = absurd (false≢true e)
     all one two (l ∷ rest) e =
         let parts = and_parts (ltb l (label + 1)) (has (l ∷ rest)) e in
         let lt = ltb-true l (label + 1) parts.0 in
-        let own = alone accepts label ++ behind_label label two.strings in
+        let own = alone accepts label ++ after_label label two.strings in
         elim (cases_lt l from) [
           | inl below ↦
               Contains-append_left one.strings own (l ∷ rest)
@@ -296,11 +296,11 @@ counted_more bytes table n (Some node) before none found = (
 )
 
 -- the number of nodes that are left after one
-abbrev pub left_behind : Option Node → ℕ
-left_behind None = 0
-left_behind (Some node) = 2 ^ 32 - number_of node
+abbrev pub remaining_after : Option Node → ℕ
+remaining_after None = 0
+remaining_after (Some node) = 2 ^ 32 - number_of node
 
-pub less_left : (bytes : List ℕ) (node : Node) (next : Option Node) → number_of node < 2 ^ 32
-    → IfSome next (λ (after : Node). IsNextNode bytes (number_of node) (number_of after)) → left_behind next < 2 ^ 32 - number_of node
-less_left bytes node None low found = omega arith
-less_left bytes node (Some after) low found = let above = found.above in omega arith
+pub less_remaining : (bytes : List ℕ) (node : Node) (next : Option Node) → number_of node < 2 ^ 32
+    → IfSome next (λ (after : Node). IsNextNode bytes (number_of node) (number_of after)) → remaining_after next < 2 ^ 32 - number_of node
+less_remaining bytes node None low found = omega arith
+less_remaining bytes node (Some after) low found = let above = found.above in omega arith

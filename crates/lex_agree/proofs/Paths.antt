@@ -16,7 +16,7 @@ use Rattle.lex_list.specs.RotatedPaths.{label_of, letter_of, marked, path_of, Is
 use Rattle.lex_list.specs.Words.{word_order, is_word, has_word_length, has_capitals_alone, IsWordList}
 use Rattle.lex_list.proofs.RotatedPaths.{not_equal, letter_above, letter_again, capitals_of, list_capitals, tested}
 use Rattle.lex_agree.specs.Counts.{HasAtMost, IsCount, letters_of}
-use Rattle.lex_agree.proofs.Pigeons.{AreApart, all_there, apart_both, is_first, is_behind, first_or_behind}
+use Rattle.lex_agree.proofs.Pigeons.{AreApart, all_there, apart_both, is_first, is_after, first_or_after}
 
 -- every rotated path of the words is in the set
 abbrev pub HoldsPaths : (List ℕ → Bool) → List (List ℕ) → Type 0
@@ -68,7 +68,7 @@ record IsSplit (word string : List ℕ) (count : ℕ) : Type 0 where
 
 splits_to : (word string : List ℕ) (count : ℕ) → Contains (splits_of word count) string → IsSplit word string count
 splits_to word string zero has = absurd (omega (arith, has.1))
-splits_to word string (suc count) has = elim (first_or_behind string (split_path word (suc count)) (splits_of word count) has) [
+splits_to word string (suc count) has = elim (first_or_after string (split_path word (suc count)) (splits_of word count) has) [
   | inl same ↦ record { split = suc count; some = omega arith; within = omega arith; path = sym same }
   | inr other ↦ let there = splits_to word string count other in let within = there.within in
       record { split = there.split; some = there.some; within = omega arith; path = there.path }
@@ -84,7 +84,7 @@ all_to : (words : List (List ℕ)) (string : List ℕ) → Contains (all_paths w
 all_to [] string has = absurd (omega (arith, has.1))
 all_to (word ∷ words) string has = elim (Contains-append_cases (splits_of word (length word)) (all_paths words) string has) [
   | inl here ↦ record { word = word; listed = is_first word words; split = splits_to word string (length word) here }
-  | inr there ↦ let more = all_to words string there in record { word = more.word; listed = is_behind more.word word words more.listed; split = more.split }
+  | inr there ↦ let more = all_to words string there in record { word = more.word; listed = is_after more.word word words more.listed; split = more.split }
 ]
 
 path_to : (words : List (List ℕ)) (string : List ℕ) → Contains (all_paths words) string → IsPath words string
@@ -198,7 +198,7 @@ splits_apart word (suc count) capitals within = (
 above_all : (word other : List ℕ) (words : List (List ℕ)) → AllByRecursion (λ (y : List ℕ). word_order word y ≡ Less) words → Contains words other
     → word_order word other ≡ Less
 above_all word other [] above has = absurd (omega (arith, has.1))
-above_all word other (first ∷ words) above has = elim (first_or_behind other first words has) [
+above_all word other (first ∷ words) above has = elim (first_or_after other first words has) [
   | inl same ↦ subst (λ (y : List ℕ). word_order word y ≡ Less) same above.0
   | inr more ↦ above_all word other words above.1 more
 ]
@@ -243,8 +243,8 @@ agreed words has is most holds string =
     (λ path. holds string ((tested words capitals string).0 path))
 
 -- the same, from a count that is the number of letters
-pub told : (words : List (List ℕ)) (has : List ℕ → Bool) (strings letters : ℕ) → IsWordList words → IsCount has strings
+pub reported : (words : List (List ℕ)) (has : List ℕ → Bool) (strings letters : ℕ) → IsWordList words → IsCount has strings
     → letters ≡ letters_of words → letters ≤ 6000000 → strings ≡ letters → HoldsPaths has words → StandsFor has words
-told words has strings letters is count number few equal holds =
+reported words has strings letters is count number few equal holds =
     let total : strings ≡ letters_of words = equal ∙ number in
     agreed words has is (subst (HasAtMost has) total (count (omega arith))) holds

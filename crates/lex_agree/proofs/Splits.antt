@@ -6,7 +6,7 @@ use Rattle.std.specs.List.{list_all}
 use Rattle.std.proofs.Math.Seq.{take-suc, take-append_seam, drop-append_seam}
 use Rattle.std.proofs.lemmas.Bool.{and_parts}
 use Rattle.std.proofs.lemmas.List.{reverse-append, get_or_default}
-use Rattle.lex_list.specs.RotatedPaths.{label_of, behind_mark, marked, path_of}
+use Rattle.lex_list.specs.RotatedPaths.{label_of, after_mark, marked, path_of}
 use Rattle.lex_list.specs.Words.{is_word}
 use Rattle.lex_list.proofs.RotatedPaths.{letter_above}
 use Rattle.lex_agree.specs.Chains.{AreLetters, TurnsOverFrom, first_path}
@@ -23,7 +23,7 @@ letters_of_capitals (letter ∷ word) capitals =
     let above = letter_above letter parts.0 in
     (omega arith, letters_of_capitals word parts.1)
 
-marked_is : (back : List ℕ) → behind_mark (map label_of back) ≡ marked back
+marked_is : (back : List ℕ) → after_mark (map label_of back) ≡ marked back
 marked_is [] = refl
 marked_is (letter ∷ back) = refl
 
@@ -34,7 +34,7 @@ first_is (letter ∷ other ∷ word) long = refl
 
 -- one more letter
 turned : (word : List ℕ) (split : ℕ) → split < length word → path_of (take (suc split) word) (drop (suc split) word)
-    ≡ label_of (get_or word split 0) ∷ map label_of (reverse (take split word)) ++ behind_mark (map label_of (drop (suc split) word))
+    ≡ label_of (get_or word split 0) ∷ map label_of (reverse (take split word)) ++ after_mark (map label_of (drop (suc split) word))
 turned word split inside =
     let front : take (suc split) word ≡ take split word ++ get_or word split 0 ∷ [] = take-suc word split 0 inside in
     let back = reverse-append (take split word) (get_or word split 0 ∷ []) in

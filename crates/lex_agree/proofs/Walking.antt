@@ -8,9 +8,9 @@ use Rattle.lex_file.specs.Files.{number_of}
 use Rattle.lex_file.specs.Languages.{file_tail, language_of}
 use Rattle.lex_file.specs.Lexicons.{NoLonger}
 use Rattle.lex_file.specs.Shapes.{root_of}
-use Rattle.lex_file.specs.SoundFiles.{file_nonempty}
+use Rattle.lex_file.specs.laws.Files.{file_nonempty}
 use Rattle.lex_file.specs.Walking.{strings, next_strings, IsOpen}
-use Rattle.lex_list.specs.RotatedPaths.{label_of, behind_mark}
+use Rattle.lex_list.specs.RotatedPaths.{label_of, after_mark}
 use Rattle.lex_list.proofs.RotatedPaths.{not_equal}
 use Rattle.lex_agree.specs.Chains.{AreLetters, TurnsOver, TurnsOverFrom, first_path}
 use Rattle.lex_agree.specs.Walks.{node_tail, no_step, IsNodeOf, IsStepAt, IsNodeAt, Leads, AreSteps, IsPast, AreAlike}
@@ -65,38 +65,38 @@ letter_first bytes (letter ∷ word) next some here = here
 
 -- the labels after a mark that are below one turn over
 abbrev pub TurnsBelow : List ℕ → List ℕ → Node → ℕ → Type 0
-TurnsBelow bytes front behind from =
-    (label : ℕ) (rest : List ℕ) → label < from → file_tail bytes (number_of behind) (label ∷ rest) ≡ true → language_of bytes (label ∷ front ++ behind_mark rest) ≡ true
+TurnsBelow bytes front following from =
+    (label : ℕ) (rest : List ℕ) → label < from → file_tail bytes (number_of following) (label ∷ rest) ≡ true → language_of bytes (label ∷ front ++ after_mark rest) ≡ true
 
-pub turns_none : (bytes front : List ℕ) (behind : Node) → TurnsBelow bytes front behind 0
-turns_none bytes front behind label rest low there = absurd (omega arith)
+pub turns_none : (bytes front : List ℕ) (following : Node) → TurnsBelow bytes front following 0
+turns_none bytes front following label rest low there = absurd (omega arith)
 
-pub turns_more : (bytes front : List ℕ) (behind : Node) (from label : ℕ) (accepts : Bool) (next : Option Node) (turned marked : Step Node)
-    → TurnsBelow bytes front behind from → ((l : ℕ) → from ≤ l → l < label → (rest : List ℕ) → file_tail bytes (number_of behind) (l ∷ rest) ≡ false)
-    → accepts ≡ file_tail bytes (number_of behind) (label ∷ []) → Leads bytes behind label next → IsStepAt bytes (label ∷ front) turned
+pub turns_more : (bytes front : List ℕ) (following : Node) (from label : ℕ) (accepts : Bool) (next : Option Node) (turned marked : Step Node)
+    → TurnsBelow bytes front following from → ((l : ℕ) → from ≤ l → l < label → (rest : List ℕ) → file_tail bytes (number_of following) (l ∷ rest) ≡ false)
+    → accepts ≡ file_tail bytes (number_of following) (label ∷ []) → Leads bytes following label next → IsStepAt bytes (label ∷ front) turned
     → ((t : List ℕ) → strings (node_tail bytes) turned (0 ∷ t) ≡ strings (node_tail bytes) marked t) → (accepts ≡ true → turned.accepts ≡ true)
-    → ((t : List ℕ) → next_strings (node_tail bytes) next t ≡ next_strings (node_tail bytes) marked.next t) → TurnsBelow bytes front behind (label + 1)
-turns_more bytes front behind from label accepts next turned marked before passed ends leads at step kept same l rest low there =
+    → ((t : List ℕ) → next_strings (node_tail bytes) next t ≡ next_strings (node_tail bytes) marked.next t) → TurnsBelow bytes front following (label + 1)
+turns_more bytes front following from label accepts next turned marked before passed ends leads at step kept same l rest low there =
     elim (cases_lt l from) [
       | inl below ↦ before l rest below there
       | inr past ↦ elim (cases_lt l label) [
         | inl between ↦ absurd (false≢true (sym (passed l past between rest) ∙ there))
         | inr reached ↦
             let is : label ≡ l = omega arith in
-            subst (λ (m : ℕ). language_of bytes (m ∷ front ++ behind_mark rest) ≡ true) is
-            (here rest (subst (λ (m : ℕ). file_tail bytes (number_of behind) (m ∷ rest) ≡ true) (sym is) there))
+            subst (λ (m : ℕ). language_of bytes (m ∷ front ++ after_mark rest) ≡ true) is
+            (here rest (subst (λ (m : ℕ). file_tail bytes (number_of following) (m ∷ rest) ≡ true) (sym is) there))
       ]
     ]
   where
-    here : (rest : List ℕ) → file_tail bytes (number_of behind) (label ∷ rest) ≡ true → language_of bytes (label ∷ front ++ behind_mark rest) ≡ true
+    here : (rest : List ℕ) → file_tail bytes (number_of following) (label ∷ rest) ≡ true → language_of bytes (label ∷ front ++ after_mark rest) ≡ true
     here [] e = at.strings_there [] ∙ kept (ends ∙ e)
     here (after ∷ more) e =
-        at.strings_there (0 ∷ after ∷ more) ∙ step (after ∷ more) ∙ sym (same (after ∷ more)) ∙ sym (longer bytes behind label next leads after more) ∙ e
+        at.strings_there (0 ∷ after ∷ more) ∙ step (after ∷ more) ∙ sym (same (after ∷ more)) ∙ sym (longer bytes following label next leads after more) ∙ e
 
-pub turns_all : (bytes front : List ℕ) (behind : Node) (from : ℕ) → TurnsBelow bytes front behind from
-    → ((label : ℕ) → from ≤ label → (rest : List ℕ) → file_tail bytes (number_of behind) (label ∷ rest) ≡ false)
-    → (label : ℕ) (rest : List ℕ) → file_tail bytes (number_of behind) (label ∷ rest) ≡ true → language_of bytes (label ∷ front ++ behind_mark rest) ≡ true
-turns_all bytes front behind from before none label rest there = elim (cases_lt label from) [
+pub turns_all : (bytes front : List ℕ) (following : Node) (from : ℕ) → TurnsBelow bytes front following from
+    → ((label : ℕ) → from ≤ label → (rest : List ℕ) → file_tail bytes (number_of following) (label ∷ rest) ≡ false)
+    → (label : ℕ) (rest : List ℕ) → file_tail bytes (number_of following) (label ∷ rest) ≡ true → language_of bytes (label ∷ front ++ after_mark rest) ≡ true
+turns_all bytes front following from before none label rest there = elim (cases_lt label from) [
   | inl below ↦ before label rest below there
   | inr past ↦ absurd (false≢true (sym (none label past rest) ∙ there))
 ]
@@ -106,10 +106,10 @@ pub mark_none : (bytes front : List ℕ) (node : Node) → IsNodeAt bytes front 
     → ((label : ℕ) (rest : List ℕ) → file_tail bytes (number_of node) (0 ∷ label ∷ rest) ≡ false) → TurnsOver (language_of bytes) front
 mark_none bytes front node at none label rest there = absurd (false≢true (sym (at.tails_there 0 (label ∷ rest) ∙ none label rest) ∙ there))
 
-pub mark_some : (bytes front : List ℕ) (node behind : Node) → IsNodeAt bytes front node → Leads bytes node 0 (Some behind)
-    → ((label : ℕ) (rest : List ℕ) → file_tail bytes (number_of behind) (label ∷ rest) ≡ true → language_of bytes (label ∷ front ++ behind_mark rest) ≡ true)
+pub mark_some : (bytes front : List ℕ) (node following : Node) → IsNodeAt bytes front node → Leads bytes node 0 (Some following)
+    → ((label : ℕ) (rest : List ℕ) → file_tail bytes (number_of following) (label ∷ rest) ≡ true → language_of bytes (label ∷ front ++ after_mark rest) ≡ true)
     → TurnsOver (language_of bytes) front
-mark_some bytes front node behind at leads turns label rest there =
+mark_some bytes front node following at leads turns label rest there =
     turns label rest (sym (leads.tails label rest) ∙ sym (at.tails_there 0 (label ∷ rest)) ∙ there)
 
 -- ---- turns at all nodes before a mark
@@ -273,12 +273,12 @@ pub so_far_none : (has : List ℕ → Bool) (front : List ℕ) → TurnsSoFar ha
 so_far_none has front = record { mark = λ some. absurd (omega arith); letters = λ label labels low. absurd (omega arith) }
 
 -- what is known after an arc with the mark or a letter
-abbrev pub TurnsBehind : List ℕ → List ℕ → ℕ → Option Node → Type 0
-TurnsBehind bytes front label next = (label ≡ 0 → TurnsOver (language_of bytes) front) × (0 < label → TurnsThere (language_of bytes) front label next)
+abbrev pub TurnsAfter : List ℕ → List ℕ → ℕ → Option Node → Type 0
+TurnsAfter bytes front label next = (label ≡ 0 → TurnsOver (language_of bytes) front) × (0 < label → TurnsThere (language_of bytes) front label next)
 
 pub so_far_more : (bytes front : List ℕ) (node : Node) (from label : ℕ) (next : Option Node) → IsNodeAt bytes front node
     → TurnsSoFar (language_of bytes) front from → ((l : ℕ) → from ≤ l → l < label → (rest : List ℕ) → file_tail bytes (number_of node) (l ∷ rest) ≡ false)
-    → from ≤ label → Leads bytes node label next → TurnsBehind bytes front label next → TurnsSoFar (language_of bytes) front (label + 1)
+    → from ≤ label → Leads bytes node label next → TurnsAfter bytes front label next → TurnsSoFar (language_of bytes) front (label + 1)
 so_far_more bytes front node from label next at before passed reached leads there = record {
   mark = λ some. elim (cases_lt 0 from) [
     | inl past ↦ before.mark past
@@ -303,32 +303,32 @@ so_far_all bytes front node from at before none =
     over_all bytes front node from at here before.letters none
 
 -- what turns over after labels that are those of a front
-pub behind_same : (bytes labels front : List ℕ) (behind : Node) → labels ≡ front
-    → ((turned : ℕ) (rest : List ℕ) → file_tail bytes (number_of behind) (turned ∷ rest) ≡ true → language_of bytes (turned ∷ labels ++ behind_mark rest) ≡ true)
-    → (turned : ℕ) (rest : List ℕ) → file_tail bytes (number_of behind) (turned ∷ rest) ≡ true → language_of bytes (turned ∷ front ++ behind_mark rest) ≡ true
-behind_same bytes labels front behind same turns turned rest there =
-    subst (λ (l : List ℕ). language_of bytes (turned ∷ l ++ behind_mark rest) ≡ true) same (turns turned rest there)
+pub after_same : (bytes labels front : List ℕ) (following : Node) → labels ≡ front
+    → ((turned : ℕ) (rest : List ℕ) → file_tail bytes (number_of following) (turned ∷ rest) ≡ true → language_of bytes (turned ∷ labels ++ after_mark rest) ≡ true)
+    → (turned : ℕ) (rest : List ℕ) → file_tail bytes (number_of following) (turned ∷ rest) ≡ true → language_of bytes (turned ∷ front ++ after_mark rest) ≡ true
+after_same bytes labels front following same turns turned rest there =
+    subst (λ (l : List ℕ). language_of bytes (turned ∷ l ++ after_mark rest) ≡ true) same (turns turned rest there)
 
 -- after the mark, after a letter, and if nothing continues
-pub behind_mark_there : (bytes front : List ℕ) (node behind : Node) (label : ℕ) (found : Option Node) → IsNodeAt bytes front node → label ≡ 0 → found ≡ Some behind
+pub after_mark_there : (bytes front : List ℕ) (node following : Node) (label : ℕ) (found : Option Node) → IsNodeAt bytes front node → label ≡ 0 → found ≡ Some following
     → Leads bytes node label found
-    → ((turned : ℕ) (rest : List ℕ) → file_tail bytes (number_of behind) (turned ∷ rest) ≡ true → language_of bytes (turned ∷ front ++ behind_mark rest) ≡ true)
-    → TurnsBehind bytes front label found
-behind_mark_there bytes front node behind label found at is some leads turns = (
-  (λ _. mark_some bytes front node behind at (subst (λ (o : Option Node). Leads bytes node 0 o) some (subst (λ (l : ℕ). Leads bytes node l found) is leads)) turns),
+    → ((turned : ℕ) (rest : List ℕ) → file_tail bytes (number_of following) (turned ∷ rest) ≡ true → language_of bytes (turned ∷ front ++ after_mark rest) ≡ true)
+    → TurnsAfter bytes front label found
+after_mark_there bytes front node following label found at is some leads turns = (
+  (λ _. mark_some bytes front node following at (subst (λ (o : Option Node). Leads bytes node 0 o) some (subst (λ (l : ℕ). Leads bytes node l found) is leads)) turns),
   (λ letter. absurd (omega arith)),
 )
 
-pub behind_letter_there : (bytes front longer : List ℕ) (label : ℕ) (found : Option Node) (next : Node) → (label ≡ 0 → ⊥) → found ≡ Some next
-    → longer ≡ front ++ label ∷ [] → TurnsOverFrom (language_of bytes) longer → TurnsBehind bytes front label found
-behind_letter_there bytes front longer label found next letter some same turns = (
+pub after_letter_there : (bytes front longer : List ℕ) (label : ℕ) (found : Option Node) (next : Node) → (label ≡ 0 → ⊥) → found ≡ Some next
+    → longer ≡ front ++ label ∷ [] → TurnsOverFrom (language_of bytes) longer → TurnsAfter bytes front label found
+after_letter_there bytes front longer label found next letter some same turns = (
   (λ is. absurd (letter is)),
   (λ _. there_some (language_of bytes) front longer label found next some same turns),
 )
 
-pub behind_none_there : (bytes front : List ℕ) (node : Node) (label : ℕ) (found : Option Node) → IsNodeAt bytes front node → found ≡ None → Leads bytes node label found
-    → TurnsBehind bytes front label found
-behind_none_there bytes front node label found at none leads = (
+pub after_none_there : (bytes front : List ℕ) (node : Node) (label : ℕ) (found : Option Node) → IsNodeAt bytes front node → found ≡ None → Leads bytes node label found
+    → TurnsAfter bytes front label found
+after_none_there bytes front node label found at none leads = (
   (λ is. mark_none bytes front node at (subst (λ (l : ℕ). NoLonger (node_tail bytes) node l) is (subst (λ (o : Option Node). Leads bytes node label o) none leads))),
   (λ _. there_none (language_of bytes) front label found none),
 )

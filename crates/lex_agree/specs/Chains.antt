@@ -1,6 +1,6 @@
 -- How the rotated paths of a word are linked in a set of strings of labels.
 use Rattle.std.specs.Prelude.{◌≡◌, ℕ, ◌<◌, Bool, true, List, [], ◌∷◌, ◌++◌, map}
-use Rattle.lex_list.specs.RotatedPaths.{label_of, mark, behind_mark}
+use Rattle.lex_list.specs.RotatedPaths.{label_of, mark, after_mark}
 
 -- labels of letters, without a mark
 abbrev pub AreLetters : List ℕ → Type 0
@@ -10,7 +10,7 @@ AreLetters (label ∷ labels) = (0 < label) × AreLetters labels
 -- If these labels come before a mark, the label after the mark can be turned over to the front: what the set has with it after the
 -- mark, it also has with it before all labels.
 abbrev pub TurnsOver : (List ℕ → Bool) → List ℕ → Type 0
-TurnsOver has labels = (label : ℕ) (rest : List ℕ) → has (labels ++ mark ∷ label ∷ rest) ≡ true → has (label ∷ labels ++ behind_mark rest) ≡ true
+TurnsOver has labels = (label : ℕ) (rest : List ℕ) → has (labels ++ mark ∷ label ∷ rest) ≡ true → has (label ∷ labels ++ after_mark rest) ≡ true
 
 -- The same for all labels of letters that begin with these.
 abbrev pub TurnsOverFrom : (List ℕ → Bool) → List ℕ → Type 0

@@ -16,7 +16,7 @@ use std::alloc::{AllocError, Global};
 /// to the root.
 ///
 /// It takes a byte for each word of the file up to there, or in GAD2 for each three words.
-#[tactic(auto, using(crate::proofs::Bounds::counted_first, crate::proofs::Bounds::counted_more, crate::proofs::Bounds::less_left))]
+#[tactic(auto, using(crate::proofs::Bounds::counted_first, crate::proofs::Bounds::counted_more, crate::proofs::Bounds::less_remaining))]
 pub fn count_strings(alloc: Global, file: &LexFile<'_>) -> Result<u32, AllocError>
     ensures { IfOk result (λ count. IsCount (language_of (bytes_of file.now)) count) }
 {
@@ -50,7 +50,7 @@ fn count_node(file: &LexFile<'_>, counts: &CountTable, node: Node) -> u32
     while let Some(on) = file.walk_on(node, from, rest) {
         let branch = on.branch;
         law_of_labels(file, node, branch);
-        let more = count_behind(file, counts, branch.step.next);
+        let more = count_after(file, counts, branch.step.next);
         count = sum_of(count, more, branch.step.accepts);
         from = branch.label + 1;
         rest = on.rest;
@@ -60,7 +60,7 @@ fn count_node(file: &LexFile<'_>, counts: &CountTable, node: Node) -> u32
 
 /// The count of the strings after an arc.
 #[tactic(auto, using(crate::proofs::Bounds::count_none))]
-fn count_behind(file: &LexFile<'_>, counts: &CountTable, next: Option<Node>) -> u32
+fn count_after(file: &LexFile<'_>, counts: &CountTable, next: Option<Node>) -> u32
     requires { IsCountedThere (bytes_of file.now) counts.now next }
     ensures { IsCount (next_strings (node_tail (bytes_of file.now)) next) result }
 {

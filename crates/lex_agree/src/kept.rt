@@ -4,7 +4,7 @@ ghost use Rattle.lex_file.specs.Files.{bytes_of};
 ghost use Rattle.lex_agree.specs.Walks.{IsStepAt, AreTurned, IsKept};
 
 use crate::firsts::common_letters;
-use crate::steps::{behind_label, follow};
+use crate::steps::{after_label, follow};
 use lex_file::{LexFile, Node, Step};
 
 /// The maximum number of labels before a mark.
@@ -58,7 +58,7 @@ fn begin(file: &LexFile<'_>, first: u8, front: &[u8], kept: &mut Kept) -> usize
     ensures steps { AreTurned (bytes_of file.now) first front.now result kept.new.steps }
 {
     if kept.known == 0 {
-        kept.steps[0] = behind_label(file, first);
+        kept.steps[0] = after_label(file, first);
         return 0;
     }
     common_letters(&kept.front[..kept.known - 1], front)

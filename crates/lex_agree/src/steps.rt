@@ -45,7 +45,7 @@ pub fn follow(file: &LexFile<'_>, at: Step<Node>, label: u8) -> Step<Node>
 }
 
 /// What follows a label.
-pub fn behind_label(file: &LexFile<'_>, label: u8) -> Step<Node>
+pub fn after_label(file: &LexFile<'_>, label: u8) -> Step<Node>
     ensures { IsStepAt (bytes_of file.now) (label ∷ []) result }
 {
     follow(file, start(file), label)

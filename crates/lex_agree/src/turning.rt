@@ -1,7 +1,7 @@
 //! Whether letters turn over: what a file has with a letter after a mark, it also has with that letter before the front.
 ghost use Rattle.std.specs.Prelude.{◌≡◌, ◌+◌, ◌<◌, ◌≤◌, ◌++◌, ◌∷◌, [], ℕ, List, IsSome, OnSome, length, take, true};
 ghost use Rattle.std.specs.Bool.{OnTrue};
-ghost use Rattle.lex_list.specs.RotatedPaths.{behind_mark};
+ghost use Rattle.lex_list.specs.RotatedPaths.{after_mark};
 ghost use Rattle.lex_file.specs.Files.{bytes_of, number_of};
 ghost use Rattle.lex_file.specs.Languages.{file_tail, language_of};
 ghost use Rattle.lex_agree.specs.Chains.{TurnsOverFrom};
@@ -50,7 +50,7 @@ fn turn_over(
     if fronts == 0 || len >= MOST_LABELS {
         return None;
     }
-    let mut left = fronts - 1;
+    let mut remaining = fronts - 1;
     let mut from = 0;
     let mut rest = file.place(node) as usize;
     while let Some(on) = file.walk_on(node, from, rest) {
@@ -58,40 +58,40 @@ fn turn_over(
         law_of_labels(file, node, branch);
         match branch.step.next {
             None => {}
-            Some(behind) if branch.label == MARK => {
-                if !turn_over_at(file, &front[..len], behind, kept) {
+            Some(following) if branch.label == MARK => {
+                if !turn_over_at(file, &front[..len], following, kept) {
                     return None;
                 }
             }
             Some(next) => {
                 front[len] = branch.label;
-                left = turn_over(file, front, len + 1, next, left, kept)?;
+                remaining = turn_over(file, front, len + 1, next, remaining, kept)?;
             }
         }
         from = branch.label + 1;
         rest = on.rest;
     }
-    Some(left)
+    Some(remaining)
 }
 
 /// Whether the letters turn over with which tails of a node begin; the node comes after the mark of a front.
 fn turn_over_at(
     file: &LexFile<'_>,
     front: &[u8],
-    behind: Node,
+    following: Node,
     kept: &mut [Kept; EACH_LABEL],
 ) -> bool
     requires few { length front.now < 15 }
-    requires behind { IsNodeOf (bytes_of file.now) behind }
+    requires following { IsNodeOf (bytes_of file.now) following }
     requires kept { AreKept (bytes_of file.now) kept.old }
-    ensures turned { OnTrue result ((label : ℕ) (rest : List ℕ) → file_tail (bytes_of file.now) (number_of behind) (label ∷ rest) ≡ true → language_of (bytes_of file.now) (label ∷ front.now ++ behind_mark rest) ≡ true) }
+    ensures turned { OnTrue result ((label : ℕ) (rest : List ℕ) → file_tail (bytes_of file.now) (number_of following) (label ∷ rest) ≡ true → language_of (bytes_of file.now) (label ∷ front.now ++ after_mark rest) ≡ true) }
     ensures kept { OnTrue result (AreKept (bytes_of file.now) kept.new) }
 {
     let mut from = 0;
-    let mut rest = file.place(behind) as usize;
-    while let Some(on) = file.walk_on(behind, from, rest) {
+    let mut rest = file.place(following) as usize;
+    while let Some(on) = file.walk_on(following, from, rest) {
         let branch = on.branch;
-        law_of_labels(file, behind, branch);
+        law_of_labels(file, following, branch);
         let turned = walk_on(file, branch.label, front, &mut kept[branch.label as usize]);
         let marked = follow(file, turned, MARK);
         if !is_kept(branch.step.accepts, turned.accepts) {

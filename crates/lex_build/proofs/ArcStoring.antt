@@ -11,7 +11,7 @@ use Rattle.lex_file.specs.FileWords.{body_of}
 use Rattle.lex_file.specs.Formats.{most_arcs}
 use Rattle.lex_file.specs.Graphs.{AreRising, is_other}
 use Rattle.lex_file.specs.Nodes.{node_at, begins}
-use Rattle.lex_file.specs.SoundNodes.{node_of_first}
+use Rattle.lex_file.specs.laws.Nodes.{node_of_first}
 use Rattle.lex_build.specs.Bodies.{IsBody, IsOpenArc, IsArcList, is_target, run_with, IsNodeWith, HasAppended}
 use Rattle.lex_build.specs.NodeWords.{HaveLabels, HaveTargets, word_of, words_of}
 use Rattle.lex_build.specs.Stores.{AreNextArcs, IsStoredNext, HasStored, is_stored}
@@ -170,9 +170,9 @@ module _ (words : List ℕ) (arcs : List Arc) (sound : IsBody words) (next : Are
         | inr after ↦ elim (cases_eq place (length words)) [
           | inl same ↦ inl (omega arith)
           | inr other ↦
-              let behind : place ≡ length words + suc (place - length words - 1) = omega arith in
+              let following : place ≡ length words + suc (place - length words - 1) = omega arith in
               absurd (inner_open (place - length words - 1) (omega (arith, size, inside))
-              (subst (λ (p : ℕ). begins (words ++ run_with (map word_of arcs)) p ≡ true) behind parts.1))
+              (subst (λ (p : ℕ). begins (words ++ run_with (map word_of arcs)) p ≡ true) following parts.1))
         ]
       ]
 

@@ -15,7 +15,7 @@ use Rattle.lex_file.specs.Formats.{header_bytes}
 use Rattle.lex_file.specs.Graphs.{IsSoundGraph, none_of_zero, arc_sound}
 use Rattle.lex_file.specs.Languages.{tail_in}
 use Rattle.lex_file.specs.Shapes.{format_of, fault_of, root_of, word_count_of, nodes_by, names_node, file_node, is_file_node}
-use Rattle.lex_file.specs.SoundFiles as files
+use Rattle.lex_file.specs.laws.Files as files
 use Rattle.lex_build.specs.Bodies.{IsWhole}
 use Rattle.lex_build.specs.Headers.{header_of}
 use Rattle.lex_build.specs.Stores.{limit_of, words_for, IsSoundBody, AreNextArcs, IsStoredNext}
@@ -107,9 +107,9 @@ IsConvertedUntil format bytes words numbers None = IsConvertedWhole format bytes
 IsConvertedUntil format bytes words numbers (Some node) = IsConvertedBefore format bytes words numbers (number_of node)
 
 -- an upper bound on the number of nodes left
-abbrev pub nodes_left : List ℕ → Option Node → ℕ
-nodes_left bytes None = 0
-nodes_left bytes (Some node) = length (body_of bytes) + 1 - number_of node
+abbrev pub nodes_remaining : List ℕ → Option Node → ℕ
+nodes_remaining bytes None = 0
+nodes_remaining bytes (Some node) = length (body_of bytes) + 1 - number_of node
 
 pub until_next : (format : Format) (bytes words numbers : List ℕ) (low : ℕ) (next : Option Node) → IsConvertedTo format bytes words numbers low
     → IfNone next ((n : ℕ) → low < n → is_file_node bytes n ≡ false) → IfSome next (λ node. IsNextNode bytes low (number_of node))
@@ -117,10 +117,10 @@ pub until_next : (format : Format) (bytes words numbers : List ℕ) (low : ℕ) 
 until_next format bytes words numbers low None before none some = record { last = low; before = before; none = none }
 until_next format bytes words numbers low (Some node) before none some = record { last = low; before = before; next = some }
 
-pub fewer_left : (bytes : List ℕ) → IsTrue (is_none (fault_of bytes)) → (node : Node) (next : Option Node) → is_file_node bytes (number_of node) ≡ true
-    → IfSome next (λ after. IsNextNode bytes (number_of node) (number_of after)) → nodes_left bytes next < nodes_left bytes (Some node)
-fewer_left bytes shape node None is some = let within = file_within bytes shape (number_of node) is in omega (arith, within)
-fewer_left bytes shape node (Some after) is some =
+pub fewer_remaining : (bytes : List ℕ) → IsTrue (is_none (fault_of bytes)) → (node : Node) (next : Option Node) → is_file_node bytes (number_of node) ≡ true
+    → IfSome next (λ after. IsNextNode bytes (number_of node) (number_of after)) → nodes_remaining bytes next < nodes_remaining bytes (Some node)
+fewer_remaining bytes shape node None is some = let within = file_within bytes shape (number_of node) is in omega (arith, within)
+fewer_remaining bytes shape node (Some after) is some =
     let within = file_within bytes shape (number_of after) some.node in
     let above = some.above in
     omega (arith, within, above)

@@ -10,7 +10,7 @@ use Rattle.lex_file.specs.declared.arcs.Arc.{Arc}
 use Rattle.lex_file.specs.Arcs.{arc_of, is_last, has_label, arc_with, accepts_of, target_of}
 use Rattle.lex_file.specs.Nodes.{node_at, is_first}
 use Rattle.lex_file.specs.Languages.{tail_in}
-use Rattle.lex_file.specs.Lexicons.{is_label, IsBehind, NextGives}
+use Rattle.lex_file.specs.Lexicons.{is_label, IsAfter, NextGives}
 use Rattle.lex_file.specs.Graphs.{none_of_zero}
 use Rattle.lex_file.proofs.Runs.{not_equal}
 use Rattle.lex_build.specs.Bodies.{IsBody, IsGrown, is_target, IsOpenArc, IsArcList, IsPlaced, IsUnplaced}
@@ -141,7 +141,7 @@ branch_ends now has label accepts e alive none =
 
 -- a node is written for the longer strings
 module _ {N : Type 0} (is_node : N → Type 0) (tail : N → List ℕ → Bool) (height : N → ℕ) (node : N) (label : ℕ) (next : N)
-    (is : IsBehind is_node tail height node label next) (empty : tail next [] ≡ false) where
+    (is : IsAfter is_node tail height node label next) (empty : tail next [] ≡ false) where
   pub branch_goes : (now new : List ℕ) (target : ℕ) → IsWritten now new (tail next) target → IsBranch now new (tail node) label target
   branch_goes now new target written = record {
     grown = written.grown;

@@ -9,7 +9,7 @@ use Rattle.lex_file.specs.Nodes.{run_of, node_at, begins, is_first, is_node, sta
 use Rattle.lex_file.specs.Shapes.{label_before, leads_back, arc_fault, arcs_fault}
 use Rattle.lex_file.specs.Languages.{tail_in}
 use Rattle.lex_file.specs.Graphs.{arc_sound}
-use Rattle.lex_file.specs.SoundNodes.{IsFineArc, arc_facts, fine_at, leads_where, gad1_graph}
+use Rattle.lex_file.specs.laws.Nodes.{IsFineArc, arc_facts, fine_at, leads_where, gad1_graph}
 use Rattle.lex_build.specs.Bodies.{is_target}
 
 -- ---- places before the growth
@@ -121,10 +121,10 @@ target_of_node words zero is = refl
 target_of_node words (suc place) is = is
 
 -- the target of an arc is a node
-behind : (words : List ℕ) (n label : ℕ) → arcs_fault words (length words) ≡ None → is_target words n ≡ true
+following : (words : List ℕ) (n label : ℕ) → arcs_fault words (length words) ≡ None → is_target words n ≡ true
     → is_target words (target_of (arc_with label (node_at words n))) ≡ true
-behind words zero label fine is = refl
-behind words (suc place) label fine is = by (arc_with label (node_at words (suc place))) refl
+following words zero label fine is = refl
+following words (suc place) label fine is = by (arc_with label (node_at words (suc place))) refl
   where
     by : (o : Option Arc) → arc_with label (node_at words (suc place)) ≡ o → is_target words (target_of o) ≡ true
     by None e = refl
@@ -141,4 +141,4 @@ tails_grown words more n [] fine closed is = refl
 tails_grown words more n (label ∷ []) fine closed is = ap (λ (arcs : List Arc). accepts_of (arc_with label arcs)) (target_node words more n closed is)
 tails_grown words more n (label ∷ after ∷ rest) fine closed is =
     ap (λ (arcs : List Arc). tail_in (node_at (words ++ more)) (target_of (arc_with label arcs)) (after ∷ rest)) (target_node words more n closed is)
-    ∙ tails_grown words more (target_of (arc_with label (node_at words n))) (after ∷ rest) fine closed (behind words n label fine is)
+    ∙ tails_grown words more (target_of (arc_with label (node_at words n))) (after ∷ rest) fine closed (following words n label fine is)

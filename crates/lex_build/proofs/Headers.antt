@@ -12,7 +12,7 @@ use Rattle.lex_file.specs.declared.formats.Format.{Format}
 use Rattle.lex_file.specs.declared.formats.Format.TheVariants as form
 use Rattle.lex_file.specs.Shapes.{format_of, count_of, root_of, word_count_of, body_fault, header_fault, mask_header_fault, form_fault, fault_of, names_node}
 use Rattle.lex_file.specs.Languages.{tail_in, file_tail}
-use Rattle.lex_file.specs.SoundFiles.{nodes_are}
+use Rattle.lex_file.specs.laws.Files.{nodes_are}
 use Rattle.lex_build.specs.Bodies.{IsKept, is_target}
 use Rattle.lex_check.specs.Stretches.{IsPathList, is_one_of}
 use Rattle.smallvec.specs.SmallVec.{SmallVec}
@@ -22,7 +22,7 @@ use Rattle.lex_build.specs.Stores.{limit_of, IsSoundBody}
 use Rattle.lex_build.specs.Walks.{IsWritten, IsUnwritten}
 use Rattle.lex_build.specs.declared.faults.BuildFault.{BuildFault}
 use Rattle.lex_build.specs.declared.faults.BuildFault.TheVariants as why
-use Rattle.lex_build.proofs.Labels.{many_labels}
+use Rattle.lex_build.proofs.Labels.{count_labels}
 use Rattle.lex_build.proofs.Bytes.{word_back, take_all}
 use Rattle.lex_build.proofs.NewArcs.{not_less}
 
@@ -213,4 +213,4 @@ built_file words paths count bytes same number file = record {
 pub built_fault : (words paths : List (List ℕ)) (fault : BuildFault) → IsPathList paths → StandsFor (is_one_of paths) words
     → IsUnwritten [] (λ string. is_one_of paths string) fault → IsUnbuilt words fault
 built_fault words paths why.NoMemory list same is = tt
-built_fault words paths why.TooManyArcs list same is = many_labels words paths list same is.count is.labels (let many = is.many in omega arith)
+built_fault words paths why.TooManyArcs list same is = count_labels words paths list same is.count is.labels (let many = is.many in omega arith)

@@ -5,12 +5,12 @@ use Rattle.std.specs.List.{Contains, sum_by}
 use Rattle.std.proofs.lemmas.Bool.{and_parts, lt-ltb, ltb-true, false≢true}
 use Rattle.std.proofs.lemmas.List.Elements.{Contains-append_left, Contains-append_right, Contains-append_cases}
 use Rattle.std.proofs.lemmas.List.Sums.{sum_by-cons, sum_by-append}
-use Rattle.lex_file.specs.Lexicons.{IsBehind}
+use Rattle.lex_file.specs.Lexicons.{IsAfter}
 use Rattle.lex_build.specs.Labels.{AreApart, HasLabels}
 use Rattle.lex_list.specs.RotatedPaths.{StandsFor}
 use Rattle.lex_check.specs.Stretches.{IsPathList, is_one_of}
-use Rattle.lex_check.specs.StretchLaws.{left_to}
-use Rattle.lex_check.proofs.LeftStrings.{left_from}
+use Rattle.lex_check.specs.laws.Stretches.{remaining_to}
+use Rattle.lex_check.proofs.RemainingStrings.{remaining_from}
 use Rattle.lex_build.specs.Builds.{HasManyLabels}
 use Rattle.lex_file.specs.Formats.{most_arcs}
 use Rattle.std.proofs.lemmas.List.{get_or_default}
@@ -56,7 +56,7 @@ split_at (other ∷ strings) string here =
 still : (before after : List (List ℕ)) (string other : List ℕ) → (string ≡ other → ⊥) → Contains (before ++ string ∷ after) other → Contains (before ++ after) other
 still before after string other differ there =
     ⊎_elim (Contains-append_left before after other)
-    (λ behind. ⊎_elim (λ e. absurd (differ e)) (Contains-append_right before after other) (cases_of other string after behind))
+    (λ following. ⊎_elim (λ e. absurd (differ e)) (Contains-append_right before after other) (cases_of other string after following))
     (Contains-append_cases before (string ∷ after) other there)
 
 -- ---- different strings together have at most the labels of a list that has them all
@@ -79,8 +79,8 @@ unfolding Split Inside
 most_with strings string all (before, after, e) fewer new inside =
     let parts = without before after string in
     let front = sum_by-cons length string strings in
-    let left : Inside strings (before ++ after) = λ other there. still before after string other (λ same. new (subst (Contains strings) (sym same) there)) (subst (λ (xs : List (List ℕ)). Contains xs other) e (inside other there)) in
-    let rest = fewer (before ++ after) left in
+    let remaining : Inside strings (before ++ after) = λ other there. still before after string other (λ same. new (subst (Contains strings) (sym same) there)) (subst (λ (xs : List (List ℕ)). Contains xs other) e (inside other there)) in
+    let rest = fewer (before ++ after) remaining in
     subst (λ (xs : List (List ℕ)). sum_by length (string ∷ strings) ≤ sum_by length xs) (sym e) (omega (arith, parts, front, rest))
 
 most_of : (strings all : List (List ℕ)) → AreApart strings → Inside strings all → sum_by length strings ≤ sum_by length all
@@ -101,37 +101,37 @@ apart_both (string ∷ strings) others one two disjoint = (
 )
 
 -- the strings with a label in front
-behind : ℕ → List (List ℕ) → List (List ℕ)
-behind label [] = []
-behind label (string ∷ strings) = (label ∷ string) ∷ behind label strings
+following : ℕ → List (List ℕ) → List (List ℕ)
+following label [] = []
+following label (string ∷ strings) = (label ∷ string) ∷ following label strings
 
-from_behind : (label : ℕ) (strings : List (List ℕ)) (string : List ℕ) → Contains (behind label strings) string
+from_after : (label : ℕ) (strings : List (List ℕ)) (string : List ℕ) → Contains (following label strings) string
     → (rest : List ℕ) × (label ∷ rest ≡ string) × Contains strings rest
-unfolding behind
-from_behind label [] string there = absurd (none_in string there)
-from_behind label (first ∷ strings) string there =
+unfolding following
+from_after label [] string there = absurd (none_in string there)
+from_after label (first ∷ strings) string there =
     ⊎_elim (λ e. (first, e, at_head first strings))
-    (λ more. let r = from_behind label strings string more in (r.0, r.1, further r.0 first strings r.2))
-    (cases_of string (label ∷ first) (behind label strings) there)
+    (λ more. let r = from_after label strings string more in (r.0, r.1, further r.0 first strings r.2))
+    (cases_of string (label ∷ first) (following label strings) there)
 
 same_rest : (label : ℕ) (one two : List ℕ) → label ∷ one ≡ label ∷ two → one ≡ two
 same_rest label one two e = ap (λ xs. drop 1 xs) e
 
-apart_behind : (label : ℕ) (strings : List (List ℕ)) → AreApart strings → AreApart (behind label strings)
-unfolding behind
-apart_behind label [] apart = tt
-apart_behind label (string ∷ strings) apart = (
-  (λ there. let r = from_behind label strings (label ∷ string) there in apart.0 (subst (Contains strings) (same_rest label r.0 string r.1) r.2)),
-  apart_behind label strings apart.1,
+apart_after : (label : ℕ) (strings : List (List ℕ)) → AreApart strings → AreApart (following label strings)
+unfolding following
+apart_after label [] apart = tt
+apart_after label (string ∷ strings) apart = (
+  (λ there. let r = from_after label strings (label ∷ string) there in apart.0 (subst (Contains strings) (same_rest label r.0 string r.1) r.2)),
+  apart_after label strings apart.1,
 )
 
-sum_behind : (label : ℕ) (strings : List (List ℕ)) → sum_by length (behind label strings) ≡ sum_by length strings + length strings
-unfolding behind
-sum_behind label [] = refl
-sum_behind label (string ∷ strings) =
-    let one = sum_by-cons length (label ∷ string) (behind label strings) in
+sum_after : (label : ℕ) (strings : List (List ℕ)) → sum_by length (following label strings) ≡ sum_by length strings + length strings
+unfolding following
+sum_after label [] = refl
+sum_after label (string ∷ strings) =
+    let one = sum_by-cons length (label ∷ string) (following label strings) in
     let two = sum_by-cons length string strings in
-    let rest = sum_behind label strings in
+    let rest = sum_after label strings in
     omega (arith, one, two, rest)
 
 -- ---- what a walk has seen
@@ -165,18 +165,18 @@ joined : (has : List ℕ → Bool) (from label count : ℕ) → from ≤ label �
     → (more : List (List ℕ)) → AreApart more → ((rest : List ℕ) → Contains more rest → has (label ∷ rest) ≡ true)
     → (n : ℕ) → n ≤ sum_by length more + length more → HasLabels (has_below has (label + 1)) (count + n)
 joined has from label count le seen more apart each n enough =
-    let total = sum_by-append length seen.strings (behind label more) in
-    let new = sum_behind label more in
+    let total = sum_by-append length seen.strings (following label more) in
+    let new = sum_after label more in
     let old = seen.enough in
     record {
-      strings = seen.strings ++ behind label more;
+      strings = seen.strings ++ following label more;
       each = λ string there.
           ⊎_elim (λ here. below_more has from label string le (seen.each string here))
-          (λ here. let r = from_behind label more string here in
+          (λ here. let r = from_after label more string here in
           subst (λ (s : List ℕ). has_below has (label + 1) s ≡ true) r.1 (is_below has (label + 1) label r.0 (omega arith) (each r.0 r.2)))
-          (Contains-append_cases seen.strings (behind label more) string there);
-      once = apart_both seen.strings (behind label more) seen.once (apart_behind label more apart)
-          (λ string here there. let r = from_behind label more string there in
+          (Contains-append_cases seen.strings (following label more) string there);
+      once = apart_both seen.strings (following label more) seen.once (apart_after label more apart)
+          (λ string here there. let r = from_after label more string there in
           let low = below_label has from label r.0 (subst (λ (s : List ℕ). has_below has from s ≡ true) (sym r.1) (seen.each string here)) in
           omega (arith, low));
       enough = omega (arith, total, new, old);
@@ -191,12 +191,12 @@ labels_alone has from label count le seen here =
 
 -- the tails after a label, with the label in front
 longer_is : {N : Type 0} (is_node : N → Type 0) (tail : N → List ℕ → Bool) (height : N → ℕ) (node : N) (label : ℕ) (next : N)
-    → IsBehind is_node tail height node label next → tail next [] ≡ false → (rest : List ℕ) → tail next rest ≡ true → tail node (label ∷ rest) ≡ true
+    → IsAfter is_node tail height node label next → tail next [] ≡ false → (rest : List ℕ) → tail next rest ≡ true → tail node (label ∷ rest) ≡ true
 longer_is is_node tail height node label next is empty [] e = absurd (false≢true (sym empty ∙ e))
 longer_is is_node tail height node label next is empty (after ∷ rest) e = is.tails after rest ∙ e
 
 more_by : {N : Type 0} (is_node : N → Type 0) (tail : N → List ℕ → Bool) (height : N → ℕ) (node : N) (from label count : ℕ) (next : N) (more : ℕ)
-    → from ≤ label → HasLabels (has_below (tail node) from) count → IsBehind is_node tail height node label next → tail next [] ≡ false
+    → from ≤ label → HasLabels (has_below (tail node) from) count → IsAfter is_node tail height node label next → tail next [] ≡ false
     → (strings : List (List ℕ)) → ((string : List ℕ) → Contains strings string → tail next string ≡ true) → AreApart strings → more ≤ sum_by length strings
     → HasLabels (has_below (tail node) (label + 1)) (count + (more + 1))
 more_by is_node tail height node from label count next more le seen is empty [] each once enough =
@@ -210,10 +210,10 @@ more_by is_node tail height node from label count next more le seen is empty (st
     (more + 1) (omega (arith, enough))
 
 pub labels_more : {N : Type 0} (is_node : N → Type 0) (tail : N → List ℕ → Bool) (height : N → ℕ) (node : N) (from label count : ℕ) (next : N) (more : ℕ)
-    → from ≤ label → HasLabels (has_below (tail node) from) count → IsBehind is_node tail height node label next → tail next [] ≡ false → HasLabels (tail next) more
+    → from ≤ label → HasLabels (has_below (tail node) from) count → IsAfter is_node tail height node label next → tail next [] ≡ false → HasLabels (tail next) more
     → HasLabels (has_below (tail node) (label + 1)) (count + (more + 1))
-labels_more is_node tail height node from label count next more le seen is empty behind_it =
-    more_by is_node tail height node from label count next more le seen is empty behind_it.strings behind_it.each behind_it.once behind_it.enough
+labels_more is_node tail height node from label count next more le seen is empty after_it =
+    more_by is_node tail height node from label count next more le seen is empty after_it.strings after_it.each after_it.once after_it.enough
 
 pub labels_all : (has : List ℕ → Bool) (bound count : ℕ) → HasLabels (has_below has bound) count → HasLabels has count
 labels_all has bound count seen =
@@ -235,20 +235,20 @@ read_at paths place string lt = get_or_default paths place string [] lt
 
 is_among : (paths : List (List ℕ)) (string : List ℕ) → is_one_of paths string ≡ true → Contains paths string
 is_among paths string e =
-    let at = left_to paths 0 string 0 (length paths) e in
+    let at = remaining_to paths 0 string 0 (length paths) e in
     let to = at.to in
     let lt : at.place < length paths = omega (arith, to) in
-    (at.place, lt, read_at paths at.place string lt ∙ sym at.left)
+    (at.place, lt, read_at paths at.place string lt ∙ sym at.remaining)
 
 among_is : (paths : List (List ℕ)) (string : List ℕ) → Contains paths string → is_one_of paths string ≡ true
 among_is paths string there =
     let lt = there.1 in
-    left_from paths 0 string 0 (length paths)
-    (record { place = there.0; from = omega arith; to = omega (arith, lt); left = sym (sym (read_at paths there.0 string lt) ∙ there.2) })
+    remaining_from paths 0 string 0 (length paths)
+    (record { place = there.0; from = omega arith; to = omega (arith, lt); remaining = sym (sym (read_at paths there.0 string lt) ∙ there.2) })
 
-pub many_labels : (words paths : List (List ℕ)) → IsPathList paths → StandsFor (is_one_of paths) words
+pub count_labels : (words paths : List (List ℕ)) → IsPathList paths → StandsFor (is_one_of paths) words
     → (count : ℕ) → HasLabels (λ string. is_one_of paths string) count → most_arcs < count → HasManyLabels words
-many_labels words paths is same count seen many =
+count_labels words paths is same count seen many =
     let within = labels_within (λ string. is_one_of paths string) count seen paths (is_among paths) in
     record {
       paths = paths;

@@ -9,7 +9,7 @@ use Rattle.lex_file.specs.declared.faults.FileFault.{FileFault}
 use Rattle.lex_file.specs.Graphs.{or_cases}
 use Rattle.lex_file.specs.Masks.{has_bit, is_marked, labels_below, node_size, mask_arc, arcs_among, mask_node, is_mask_node}
 use Rattle.lex_file.specs.MaskShapes.{points_back, label_fault, node_fault, nodes_fault}
-use Rattle.lex_file.specs.SoundMasks.{IsFineNode, among_has, among_lacks, among_none, label_facts, label_fine, node_facts, node_fine}
+use Rattle.lex_file.specs.laws.Masks.{IsFineNode, among_has, among_lacks, among_none, label_facts, label_fine, node_facts, node_fine}
 use Rattle.lex_file.proofs.MaskRuns.{place_of_label}
 use Rattle.lex_build.specs.Stores.{IsMaskBody}
 use Rattle.lex_build.proofs.MaskNodes.{points_to_none, points_from, label_from, labels_from, node_from}
@@ -59,10 +59,10 @@ module _ (words more : List ℕ) where
       → mask_arc (words ++ more) place label ≡ mask_arc words place label
   arc_grown place label fine lt is =
       let room = fine.room in
-      let behind = place_of_label (get_or words place 0) label is lt in
+      let following = place_of_label (get_or words place 0) label is lt in
       let first = at_grown place (omega arith) in
       let second = at_grown (place + 1) (omega arith) in
-      let third = at_grown (place + 2 + labels_below label (get_or words place 0)) (omega (arith, room, behind)) in
+      let third = at_grown (place + 2 + labels_below label (get_or words place 0)) (omega (arith, room, following)) in
       rw (first, second, third) refl
 
   pub fine_grown : (place : ℕ) → IsFineNode words place → IsFineNode (words ++ more) place
@@ -103,10 +103,10 @@ module _ (words more : List ℕ) where
 
   -- ---- all nodes
 
-  past_all : (left place : ℕ) → length (words ++ more) ≤ place → nodes_fault (words ++ more) left place ≡ None
+  past_all : (remaining place : ℕ) → length (words ++ more) ≤ place → nodes_fault (words ++ more) remaining place ≡ None
   unfolding nodes_fault
   past_all zero place le = refl
-  past_all (suc left) place le = let past = le-ltb place (length (words ++ more)) le in rw past refl
+  past_all (suc remaining) place le = let past = le-ltb place (length (words ++ more)) le in rw past refl
 
   over_node : (enough from : ℕ) → IsFineNode words from → nodes_fault (words ++ more) enough (from + node_size (get_or words from 0)) ≡ None
       → nodes_fault (words ++ more) (suc enough) from ≡ None
@@ -128,20 +128,20 @@ module _ (words more : List ℕ) where
 
   -- if the words after are those of one node without a fault, there is no fault
   pub nodes_grown : node_fault (words ++ more) (length words) ≡ None → length words + node_size (get_or (words ++ more) (length words) 0) ≡ length (words ++ more)
-      → (left enough from : ℕ) → nodes_fault words left from ≡ None → length words ≤ from + left → length (words ++ more) ≤ from + enough → from ≤ length words
+      → (remaining enough from : ℕ) → nodes_fault words remaining from ≡ None → length words ≤ from + remaining → length (words ++ more) ≤ from + enough → from ≤ length words
       → nodes_fault (words ++ more) enough from ≡ None
   unfolding nodes_fault
-  nodes_grown fine all left zero from e l m le = refl
+  nodes_grown fine all remaining zero from e l m le = refl
   nodes_grown fine all zero (suc enough) from e l m le = last_node fine all enough from (omega arith)
-  nodes_grown fine all (suc left) (suc enough) from e l m le = elim (cases_lt from (length words)) [
+  nodes_grown fine all (suc remaining) (suc enough) from e l m le = elim (cases_lt from (length words)) [
     | inl inside ↦
         let lt : ltb from (length words) ≡ true = lt-ltb from (length words) inside in
-        let whole : option_or (node_fault words from) (nodes_fault words left (from + node_size (get_or words from 0))) ≡ None = rw lt at e in
-        let parts = neither (node_fault words from) (nodes_fault words left (from + node_size (get_or words from 0))) whole in
+        let whole : option_or (node_fault words from) (nodes_fault words remaining (from + node_size (get_or words from 0))) ≡ None = rw lt at e in
+        let parts = neither (node_fault words from) (nodes_fault words remaining (from + node_size (get_or words from 0))) whole in
         let here = node_facts words from parts.0 in
         let room = here.room in
         over_node enough from here
-        (nodes_grown fine all left enough (from + node_size (get_or words from 0)) parts.1 (omega arith) (omega arith) (omega (arith, room)))
+        (nodes_grown fine all remaining enough (from + node_size (get_or words from 0)) parts.1 (omega arith) (omega arith) (omega (arith, room)))
     | inr after ↦ last_node fine all enough from (omega arith)
   ]
 

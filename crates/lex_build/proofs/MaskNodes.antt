@@ -8,7 +8,7 @@ use Rattle.lex_file.specs.Arcs.{has_label}
 use Rattle.lex_file.specs.Graphs.{AreRising, first_or_other, is_other, none_there, found_there}
 use Rattle.lex_file.specs.Masks.{has_bit, labels_below, label_count, node_size, mask_arc, arcs_among, is_mask_node}
 use Rattle.lex_file.specs.MaskShapes.{points_back, label_fault, labels_fault, node_fault}
-use Rattle.lex_file.specs.SoundMasks.{IsFineNode, below_more, among_has, among_lacks, among_none}
+use Rattle.lex_file.specs.laws.Masks.{IsFineNode, below_more, among_has, among_lacks, among_none}
 use Rattle.lex_file.proofs.MaskRuns.{found}
 use Rattle.lex_build.proofs.Growth.{or_right}
 use Rattle.lex_build.proofs.MaskBits.{none_passes}
@@ -21,11 +21,11 @@ word_there [] (suc place) word rest e = absurd cc
 word_there (first ∷ words) zero word rest e = cc
 word_there (first ∷ words) (suc place) word rest e = word_there words place word rest e
 
-pub words_behind : (words : List ℕ) (place word : ℕ) (rest : List ℕ) → drop place words ≡ word ∷ rest → drop (suc place) words ≡ rest
-words_behind [] zero word rest e = absurd cc
-words_behind [] (suc place) word rest e = absurd cc
-words_behind (first ∷ words) zero word rest e = cc
-words_behind (first ∷ words) (suc place) word rest e = words_behind words place word rest e
+pub words_after : (words : List ℕ) (place word : ℕ) (rest : List ℕ) → drop place words ≡ word ∷ rest → drop (suc place) words ≡ rest
+words_after [] zero word rest e = absurd cc
+words_after [] (suc place) word rest e = absurd cc
+words_after (first ∷ words) zero word rest e = cc
+words_after (first ∷ words) (suc place) word rest e = words_after words place word rest e
 
 -- ---- arcs from a label on
 
@@ -56,46 +56,46 @@ no_bit_below word from is =
 -- a label that no arc has
 lacks : (words : List ℕ) (place from : ℕ) (arcs : List Arc) → AreFrom words place from arcs → from ≤ 26 → ((arc : Arc) → Contains arcs arc → from < arc.label)
     → has_bit (get_or words place 0) from ≡ false
-lacks words place from arcs left le above =
-    left.labels from (omega arith) le ∙ none_passes (has_label from) arcs (λ arc there. ne_eqb arc.label from (λ e. let lt = above arc there in omega (arith, lt, e)))
+lacks words place from arcs remaining le above =
+    remaining.labels from (omega arith) le ∙ none_passes (has_label from) arcs (λ arc there. ne_eqb arc.label from (λ e. let lt = above arc there in omega (arith, lt, e)))
 
 over_label : (words : List ℕ) (place from : ℕ) (arcs : List Arc) → AreFrom words place from arcs → from ≤ 26 → ((arc : Arc) → Contains arcs arc → from < arc.label)
     → AreFrom words place (from + 1) arcs
-over_label words place from arcs left le above = record {
+over_label words place from arcs remaining le above = record {
   reached = λ arc there. let lt = above arc there in omega (arith, lt);
-  few = left.few;
-  rising = left.rising;
-  labels = λ label reached small. left.labels label (omega arith) small;
-  accepts = left.accepts;
-  targets = rw (no_bit_below (get_or words place 0) from (lacks words place from arcs left le above)) left.targets;
+  few = remaining.few;
+  rising = remaining.rising;
+  labels = λ label reached small. remaining.labels label (omega arith) small;
+  accepts = remaining.accepts;
+  targets = rw (no_bit_below (get_or words place 0) from (lacks words place from arcs remaining le above)) remaining.targets;
 }
 
 -- the label of the first arc
 has_first : (words : List ℕ) (place : ℕ) (arc : Arc) (arcs : List Arc) → AreFrom words place arc.label (arc ∷ arcs) → has_bit (get_or words place 0) arc.label ≡ true
-has_first words place arc arcs left =
-    let low = left.few arc (0, omega arith, refl) in
+has_first words place arc arcs remaining =
+    let low = remaining.few arc (0, omega arith, refl) in
     let same : eqb arc.label arc.label ≡ true = eq-eqb arc.label arc.label refl in
-    left.labels arc.label (omega arith) low ∙ rw same refl
+    remaining.labels arc.label (omega arith) low ∙ rw same refl
 
 over_arc : (words : List ℕ) (place : ℕ) (arc : Arc) (arcs : List Arc) → AreFrom words place arc.label (arc ∷ arcs) → AreFrom words place (arc.label + 1) arcs
-over_arc words place arc arcs left = record {
-  reached = λ other there. let lt = left.rising.0 other there in omega (arith, lt);
-  few = λ other there. left.few other (is_other arc other arcs there);
-  rising = left.rising.1;
-  labels = λ label reached small. let is = ne_eqb arc.label label (λ e. omega (arith, e)) in left.labels label (omega arith) small ∙ rw is refl;
-  accepts = λ other there. left.accepts other (is_other arc other arcs there);
+over_arc words place arc arcs remaining = record {
+  reached = λ other there. let lt = remaining.rising.0 other there in omega (arith, lt);
+  few = λ other there. remaining.few other (is_other arc other arcs there);
+  rising = remaining.rising.1;
+  labels = λ label reached small. let is = ne_eqb arc.label label (λ e. omega (arith, e)) in remaining.labels label (omega arith) small ∙ rw is refl;
+  accepts = λ other there. remaining.accepts other (is_other arc other arcs there);
   targets =
-      let next = bit_below (get_or words place 0) arc.label (has_first words place arc arcs left) in
-      let behind : place + 2 + suc (labels_below arc.label (get_or words place 0)) ≡ suc (place + 2 + labels_below arc.label (get_or words place 0)) = omega arith in
-      rw (next, behind)
-      (words_behind words (place + 2 + labels_below arc.label (get_or words place 0)) arc.target (map (λ (other : Arc). other.target) arcs) left.targets);
+      let next = bit_below (get_or words place 0) arc.label (has_first words place arc arcs remaining) in
+      let following : place + 2 + suc (labels_below arc.label (get_or words place 0)) ≡ suc (place + 2 + labels_below arc.label (get_or words place 0)) = omega arith in
+      rw (next, following)
+      (words_after words (place + 2 + labels_below arc.label (get_or words place 0)) arc.target (map (λ (other : Arc). other.target) arcs) remaining.targets);
 }
 
 first_is : (words : List ℕ) (place : ℕ) (arc : Arc) (arcs : List Arc) → AreFrom words place arc.label (arc ∷ arcs) → mask_arc words place arc.label ≡ arc
-first_is words place arc arcs left =
-    let accepts = left.accepts arc (0, omega arith, refl) in
+first_is words place arc arcs remaining =
+    let accepts = remaining.accepts arc (0, omega arith, refl) in
     let target : get_or words (place + 2 + labels_below arc.label (get_or words place 0)) 0 ≡ arc.target =
-    word_there words (place + 2 + labels_below arc.label (get_or words place 0)) arc.target (map (λ (other : Arc). other.target) arcs) left.targets
+    word_there words (place + 2 + labels_below arc.label (get_or words place 0)) arc.target (map (λ (other : Arc). other.target) arcs) remaining.targets
     in
     rw (accepts, target) refl
 
@@ -106,10 +106,10 @@ pub record HasFrom (words : List ℕ) (place from count : ℕ) (arcs : List Arc)
 
 arc_before : (words : List ℕ) (place count : ℕ) (arc : Arc) (arcs : List Arc) → AreFrom words place arc.label (arc ∷ arcs) → HasFrom words place (arc.label + 1) count arcs
     → HasFrom words place arc.label (suc count) (arc ∷ arcs)
-arc_before words place count arc arcs left more =
-    let is = has_first words place arc arcs left in
+arc_before words place count arc arcs remaining more =
+    let is = has_first words place arc arcs remaining in
     record {
-      arcs_are = among_has words place arc.label count is ∙ rw (first_is words place arc arcs left, more.arcs_are) refl;
+      arcs_are = among_has words place arc.label count is ∙ rw (first_is words place arc arcs remaining, more.arcs_are) refl;
       count_is = let next = bit_below (get_or words place 0) arc.label is in let rest = more.count_is in omega (arith, next, rest);
     }
 
@@ -122,27 +122,27 @@ label_before words place from count arcs is more = record {
 
 -- the arcs of the node are those that are left
 pub have_arcs : (words : List ℕ) (place from count : ℕ) (arcs : List Arc) → from + count ≡ 27 → AreFrom words place from arcs → HasFrom words place from count arcs
-have_arcs words place from zero [] size left =
+have_arcs words place from zero [] size remaining =
     let same : from ≡ 27 = omega arith in
     record { arcs_are = among_none words place from; count_is = rw same (omega arith) }
-have_arcs words place from zero (arc ∷ arcs) size left =
-    let low = left.few arc (0, omega arith, refl) in
-    let high = left.reached arc (0, omega arith, refl) in
+have_arcs words place from zero (arc ∷ arcs) size remaining =
+    let low = remaining.few arc (0, omega arith, refl) in
+    let high = remaining.reached arc (0, omega arith, refl) in
     absurd (omega (arith, low, high))
-have_arcs words place from (suc count) [] size left =
+have_arcs words place from (suc count) [] size remaining =
     let above : (arc : Arc) → Contains [] arc → from < arc.label = λ arc there. absurd (none_there arc there) in
-    label_before words place from count [] (lacks words place from [] left (omega arith) above)
-    (have_arcs words place (from + 1) count [] (omega arith) (over_label words place from [] left (omega arith) above))
-have_arcs words place from (suc count) (arc ∷ arcs) size left = elim (cases_eq from arc.label) [
+    label_before words place from count [] (lacks words place from [] remaining (omega arith) above)
+    (have_arcs words place (from + 1) count [] (omega arith) (over_label words place from [] remaining (omega arith) above))
+have_arcs words place from (suc count) (arc ∷ arcs) size remaining = elim (cases_eq from arc.label) [
   | inl same ↦
-      let at = subst (λ (n : ℕ). AreFrom words place n (arc ∷ arcs)) same left in
+      let at = subst (λ (n : ℕ). AreFrom words place n (arc ∷ arcs)) same remaining in
       subst (λ (n : ℕ). HasFrom words place n (suc count) (arc ∷ arcs)) (sym same)
       (arc_before words place count arc arcs at (have_arcs words place (arc.label + 1) count arcs (omega arith) (over_arc words place arc arcs at)))
   | inr other ↦
-      let first = left.reached arc (0, omega arith, refl) in
-      let above : (x : Arc) → Contains (arc ∷ arcs) x → from < x.label = above_all (omega arith) left.rising in
-      label_before words place from count (arc ∷ arcs) (lacks words place from (arc ∷ arcs) left (omega arith) above)
-      (have_arcs words place (from + 1) count (arc ∷ arcs) (omega arith) (over_label words place from (arc ∷ arcs) left (omega arith) above))
+      let first = remaining.reached arc (0, omega arith, refl) in
+      let above : (x : Arc) → Contains (arc ∷ arcs) x → from < x.label = above_all (omega arith) remaining.rising in
+      label_before words place from count (arc ∷ arcs) (lacks words place from (arc ∷ arcs) remaining (omega arith) above)
+      (have_arcs words place (from + 1) count (arc ∷ arcs) (omega arith) (over_label words place from (arc ∷ arcs) remaining (omega arith) above))
 ]
   where
     above_all : from < arc.label → AreRising (arc ∷ arcs) → (x : Arc) → Contains (arc ∷ arcs) x → from < x.label

@@ -13,12 +13,12 @@ use Rattle.lex_file.specs.Formats.{most_body_words}
 use Rattle.lex_file.specs.Graphs.{is_other}
 use Rattle.lex_file.specs.Masks.{has_bit, is_marked, labels_below, label_count, node_size, mask_arc, mask_node, is_mask_node}
 use Rattle.lex_file.specs.MaskShapes.{points_back, label_fault}
-use Rattle.lex_file.specs.SoundMasks.{IsFineNode}
+use Rattle.lex_file.specs.laws.Masks.{IsFineNode}
 use Rattle.lex_build.specs.Bodies.{HasAppended}
 use Rattle.lex_build.specs.NodeWords.{targets_of, IsLabelWord, IsAcceptWord}
 use Rattle.lex_build.specs.Stores.{IsMaskBody, AreNextArcs, IsStoredNext, HasStored, is_stored}
 use Rattle.lex_build.proofs.MaskBits.{marked, no_bits, no_other_accepts, accepts_each}
-use Rattle.lex_build.proofs.MaskNodes.{word_there, words_behind, AreFrom, HasFrom, have_arcs, among_contains, points_to_none, points_from, label_from, labels_from, node_from}
+use Rattle.lex_build.proofs.MaskNodes.{word_there, words_after, AreFrom, HasFrom, have_arcs, among_contains, points_to_none, points_from, label_from, labels_from, node_from}
 use Rattle.lex_build.proofs.MaskGrowth.{at_grown, names_grown, nodes_grown, node_grown}
 
 few_bits : (word : ℕ) → labels_below 0 word ≡ 0
@@ -52,7 +52,7 @@ module _ (words : List ℕ) (arcs : List Arc) (labels accepts : ℕ) (known : Is
   first_word = word_there (words ++ labels ∷ accepts ∷ targets_of arcs) (length words) labels (accepts ∷ targets_of arcs) seam
 
   seam_after : drop (suc (length words)) (words ++ labels ∷ accepts ∷ targets_of arcs) ≡ accepts ∷ targets_of arcs
-  seam_after = words_behind (words ++ labels ∷ accepts ∷ targets_of arcs) (length words) labels (accepts ∷ targets_of arcs) seam
+  seam_after = words_after (words ++ labels ∷ accepts ∷ targets_of arcs) (length words) labels (accepts ∷ targets_of arcs) seam
 
   second_word : get_or (words ++ labels ∷ accepts ∷ targets_of arcs) (length words + 1) 0 ≡ accepts
   second_word =
@@ -62,8 +62,8 @@ module _ (words : List ℕ) (arcs : List Arc) (labels accepts : ℕ) (known : Is
   size_all : length (words ++ labels ∷ accepts ∷ targets_of arcs) ≡ length words + (2 + length arcs)
   size_all = let size = length-append words (labels ∷ accepts ∷ targets_of arcs) in let same = length-map arcs (λ (arc : Arc). arc.target) in omega (arith, size, same)
 
-  left : AreFrom (words ++ labels ∷ accepts ∷ targets_of arcs) (length words) 0 arcs
-  left = record {
+  remaining : AreFrom (words ++ labels ∷ accepts ∷ targets_of arcs) (length words) 0 arcs
+  remaining = record {
     reached = λ arc there. omega arith;
     few = few;
     rising = known.next.rising;
@@ -74,11 +74,11 @@ module _ (words : List ℕ) (arcs : List Arc) (labels accepts : ℕ) (known : Is
     targets =
         let none = few_bits labels in
         let after : length words + 2 + 0 ≡ suc (suc (length words)) = omega arith in
-        rw (first_word, none, after) (words_behind (words ++ labels ∷ accepts ∷ targets_of arcs) (suc (length words)) accepts (targets_of arcs) seam_after);
+        rw (first_word, none, after) (words_after (words ++ labels ∷ accepts ∷ targets_of arcs) (suc (length words)) accepts (targets_of arcs) seam_after);
   }
 
   has : HasFrom (words ++ labels ∷ accepts ∷ targets_of arcs) (length words) 0 27 arcs
-  has = have_arcs (words ++ labels ∷ accepts ∷ targets_of arcs) (length words) 0 27 arcs (omega arith) left
+  has = have_arcs (words ++ labels ∷ accepts ∷ targets_of arcs) (length words) 0 27 arcs (omega arith) remaining
 
   count_is : label_count labels ≡ length arcs
   count_is = let count = has.count_is in let none = few_bits labels in omega (arith, rw first_word at count, none)
@@ -160,8 +160,8 @@ module _ (words : List ℕ) (arcs : List Arc) (labels accepts : ℕ) (known : Is
       omega (arith, same, low, mask)
 
   -- no word of the node after its label word is a label word
-  unmarked_behind : (more : ℕ) → is_marked (get_or (words ++ labels ∷ accepts ∷ targets_of arcs) (length words + suc more) 0) ≡ true → ⊥
-  unmarked_behind more is = by more (rw (get_or-append-add words (labels ∷ accepts ∷ targets_of arcs) (suc more) 0) at is)
+  unmarked_after : (more : ℕ) → is_marked (get_or (words ++ labels ∷ accepts ∷ targets_of arcs) (length words + suc more) 0) ≡ true → ⊥
+  unmarked_after more is = by more (rw (get_or-append-add words (labels ∷ accepts ∷ targets_of arcs) (suc more) 0) at is)
     where
       by : (more : ℕ) → is_marked (get_or (accepts ∷ targets_of arcs) more 0) ≡ true → ⊥
       by zero is = low_unmarked accepts accepts_low is
@@ -181,9 +181,9 @@ module _ (words : List ℕ) (arcs : List Arc) (labels accepts : ℕ) (known : Is
         | inr after ↦ elim (cases_eq place (length words)) [
           | inl same ↦ inl (omega arith)
           | inr other ↦
-              let behind : place ≡ length words + suc (place - length words - 1) = omega arith in
-              absurd (unmarked_behind (place - length words - 1)
-              (subst (λ (p : ℕ). is_marked (get_or (words ++ labels ∷ accepts ∷ targets_of arcs) p 0) ≡ true) behind parts.1))
+              let following : place ≡ length words + suc (place - length words - 1) = omega arith in
+              absurd (unmarked_after (place - length words - 1)
+              (subst (λ (p : ℕ). is_marked (get_or (words ++ labels ∷ accepts ∷ targets_of arcs) p 0) ≡ true) following parts.1))
         ]
       ]
 

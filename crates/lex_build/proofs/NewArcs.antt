@@ -10,7 +10,7 @@ use Rattle.lex_file.specs.declared.formats.Format.{Format}
 use Rattle.lex_file.specs.Arcs.{reaches, arc_from}
 use Rattle.lex_file.specs.Graphs.{AreRising, found_there, found_passes}
 use Rattle.lex_file.specs.Shapes.{fault_of, file_node}
-use Rattle.lex_file.specs.SoundFiles.{sound}
+use Rattle.lex_file.specs.laws.Files.{sound}
 use Rattle.lex_build.specs.Converts.{renamed}
 use Rattle.lex_build.specs.Conversions.{IsNumbered, IsConvertedBefore}
 use Rattle.lex_build.proofs.Renaming.{renamed_length, target_before}

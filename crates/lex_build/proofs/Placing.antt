@@ -15,7 +15,7 @@ use Rattle.lex_file.specs.Arcs.{arc_of, is_last}
 use Rattle.lex_file.specs.FileWords.{body_of}
 use Rattle.lex_file.specs.Nodes.{run_of, node_at, begins, is_first, start_at}
 use Rattle.lex_file.specs.Shapes.{label_before, leads_back, arc_fault, arcs_fault}
-use Rattle.lex_file.specs.SoundNodes.{IsFineArc}
+use Rattle.lex_file.specs.laws.Nodes.{IsFineArc}
 use Rattle.lex_file.specs.Formats.{most_arcs}
 use Rattle.lex_build.specs.Bodies.{IsBody, is_target, IsArcList, run_with, IsNodeWith, HasAppended, IsKept, IsPlaced, number_in}
 use Rattle.lex_build.proofs.Growth.{begins_grown, first_grown, leads_to_none, leads_from, fine_from, faults_grown, node_grown, target_cases, or_right}

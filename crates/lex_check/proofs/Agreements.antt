@@ -4,7 +4,7 @@ use Rattle.std.specs.Prelude.{is_none, ◌↔◌}
 use Rattle.lex_list.specs.Laws.{MeaningsAreLists, ListsHaveCapitals, StandingIsExact}
 use Rattle.lex_list.specs.Lists.{list_of}
 use Rattle.lex_list.specs.RotatedPaths.{IsPath}
-use Rattle.lex_file.specs.Laws.{LanguageIsSpelt}
+use Rattle.lex_file.specs.laws.{LanguageIsSpelt}
 use Rattle.lex_file.specs.Languages.{IsInLanguage, language_of}
 use Rattle.lex_check.specs.Checks.{IsLexiconOf}
 use Rattle.lex_check.specs.declared.differences.Difference.{Difference}
@@ -26,6 +26,6 @@ pub exact : LanguageIsSpelt → MeaningsAreLists → ListsHaveCapitals → Stand
     → (string : List ℕ) → IsInLanguage bytes string ↔ IsPath words string
 exact spelt means capitals standing text bytes words meaning is string =
     let list = (means text words meaning).0 in
-    let told = standing words (capitals words list) (language_of bytes) is.agreed.paths string in
+    let reported = standing words (capitals words list) (language_of bytes) is.agreed.paths string in
     let arcs = spelt bytes (ap is_none is.shape) string in
-    ((λ held. told.0 (arcs.1 held)), (λ path. arcs.0 (told.1 path)))
+    ((λ held. reported.0 (arcs.1 held)), (λ path. arcs.0 (reported.1 path)))

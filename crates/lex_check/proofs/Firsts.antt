@@ -4,7 +4,7 @@ use mathlib.Core.Bool.{beq, not}
 use Rattle.std.specs.Prelude.{IsTrue}
 use Rattle.std.specs.List.{list_all}
 use Rattle.std.proofs.lemmas.Bool.{false≢true, and_parts, ltb-true, cases_lt}
-use Rattle.lex_file.specs.Lexicons.{is_label, NoTail, NoLonger, IsBehind}
+use Rattle.lex_file.specs.Lexicons.{is_label, NoTail, NoLonger, IsAfter}
 use Rattle.lex_check.specs.Orders.{IsBefore, IsLeast}
 use Rattle.lex_check.specs.Differences.{Begins, IsMissing, IsExtra, IsFirstDifference, IsLonger}
 use Rattle.lex_check.specs.declared.differences.Difference.{Difference}
@@ -24,15 +24,15 @@ pub looked_accepts : (has : List ℕ → Bool) (label : ℕ) → has (label ∷ 
 looked_accepts has label ends = record { rest = []; holds = ends }
 
 pub looked_longer : {N : Type 0} (is_node : N → Type 0) (tail : N → List ℕ → Bool) (height : N → ℕ) (node : N) (label : ℕ) (next : N)
-    → IsBehind is_node tail height node label next → Begins (tail node) (label ∷ [])
-looked_longer is_node tail height node label next behind =
-    let after = behind.some.0 in
-    let rest = behind.some.1 in
-    record { rest = after ∷ rest; holds = behind.tails after rest ∙ behind.some.2 }
+    → IsAfter is_node tail height node label next → Begins (tail node) (label ∷ [])
+looked_longer is_node tail height node label next following =
+    let after = following.some.0 in
+    let rest = following.some.1 in
+    record { rest = after ∷ rest; holds = following.tails after rest ∙ following.some.2 }
 
 pub below_begins : {N : Type 0} (is_node : N → Type 0) (tail : N → List ℕ → Bool) (height : N → ℕ) (node : N) (label : ℕ) (next : N)
-    → IsBehind is_node tail height node label next → Begins (tail next) []
-below_begins is_node tail height node label next behind = record { rest = behind.some.0 ∷ behind.some.1; holds = behind.some.2 }
+    → IsAfter is_node tail height node label next → Begins (tail next) []
+below_begins is_node tail height node label next following = record { rest = following.some.0 ∷ following.some.1; holds = following.some.2 }
 
 -- the first label of a string of labels
 pub head_label : (label : ℕ) (rest : List ℕ) → IsTrue (list_all is_label (label ∷ rest)) → label < 27
@@ -58,11 +58,11 @@ least_one has label empty holds below = record { holds = holds; first = first }
     first (lower ∷ rest) (inl lt) = below lower lt rest
     first (lower ∷ rest) (inr same) = absurd same.1
 
-pub least_more : (has behind : List ℕ → Bool) (label : ℕ) (path : List ℕ) → has [] ≡ false → has (label ∷ []) ≡ false
-    → ((after : ℕ) (rest : List ℕ) → has (label ∷ after ∷ rest) ≡ behind (after ∷ rest)) → behind [] ≡ false
-    → ((lower : ℕ) → lower < label → (rest : List ℕ) → has (lower ∷ rest) ≡ false) → IsLeast behind path → IsLeast has (label ∷ path)
-least_more has behind label [] empty ends tails none below least = absurd (false≢true (sym none ∙ least.holds))
-least_more has behind label (next ∷ path) empty ends tails none below least = record { holds = tails next path ∙ least.holds; first = first }
+pub least_more : (has following : List ℕ → Bool) (label : ℕ) (path : List ℕ) → has [] ≡ false → has (label ∷ []) ≡ false
+    → ((after : ℕ) (rest : List ℕ) → has (label ∷ after ∷ rest) ≡ following (after ∷ rest)) → following [] ≡ false
+    → ((lower : ℕ) → lower < label → (rest : List ℕ) → has (lower ∷ rest) ≡ false) → IsLeast following path → IsLeast has (label ∷ path)
+least_more has following label [] empty ends tails none below least = absurd (false≢true (sym none ∙ least.holds))
+least_more has following label (next ∷ path) empty ends tails none below least = record { holds = tails next path ∙ least.holds; first = first }
   where
     first : (string : List ℕ) → IsBefore string (label ∷ next ∷ path) → has string ≡ false
     first [] before = empty
@@ -128,13 +128,13 @@ extra_one file list label path e begins none = record {
 }
 
 -- the list has only the label itself, and only the file continues after it, first with the label `next`
-pub extra_two : (file list behind : List ℕ → Bool) (label next : ℕ) (path : Items ℕ) → path.items ≡ label ∷ next ∷ []
+pub extra_two : (file list following : List ℕ → Bool) (label next : ℕ) (path : Items ℕ) → path.items ≡ label ∷ next ∷ []
     → file (label ∷ []) ≡ list (label ∷ []) → list (label ∷ []) ≡ true
-    → ((after : ℕ) (rest : List ℕ) → file (label ∷ after ∷ rest) ≡ behind (after ∷ rest))
+    → ((after : ℕ) (rest : List ℕ) → file (label ∷ after ∷ rest) ≡ following (after ∷ rest))
     → ((after : ℕ) (rest : List ℕ) → list (label ∷ after ∷ rest) ≡ false)
-    → Begins behind (next ∷ []) → ((lower : ℕ) → lower < next → (rest : List ℕ) → behind (lower ∷ rest) ≡ false)
+    → Begins following (next ∷ []) → ((lower : ℕ) → lower < next → (rest : List ℕ) → following (lower ∷ rest) ≡ false)
     → IsFirstUnder label file list (Extra path)
-extra_two file list behind label next path e same listed tails none begins least = record {
+extra_two file list following label next path e same listed tails none begins least = record {
   starts = (next ∷ [], e);
   differs = subst (IsExtra file list) (sym e) (record {
     extra = inr (record { rest = begins.rest; holds = tails next begins.rest ∙ begins.holds }, none next);
@@ -159,22 +159,22 @@ extra_two file list behind label next path e same listed tails none begins least
     agree (lower ∷ rest) (inr (_, inr before)) = absurd before.1
 
 -- only the list continues after the label
-pub missing_more : (file list behind : List ℕ → Bool) (label : ℕ) (least path : Items ℕ) → path.items ≡ label ∷ least.items
+pub missing_more : (file list following : List ℕ → Bool) (label : ℕ) (least path : Items ℕ) → path.items ≡ label ∷ least.items
     → file (label ∷ []) ≡ list (label ∷ [])
     → ((after : ℕ) (rest : List ℕ) → file (label ∷ after ∷ rest) ≡ false)
-    → ((after : ℕ) (rest : List ℕ) → list (label ∷ after ∷ rest) ≡ behind (after ∷ rest))
-    → behind [] ≡ false → IsLeast behind least.items → IsFirstUnder label file list (Missing path)
-missing_more file list behind label least path e same none tails empty first = record {
+    → ((after : ℕ) (rest : List ℕ) → list (label ∷ after ∷ rest) ≡ following (after ∷ rest))
+    → following [] ≡ false → IsLeast following least.items → IsFirstUnder label file list (Missing path)
+missing_more file list following label least path e same none tails empty first = record {
   starts = (least.items, e);
   differs = subst (IsMissing file list) (sym e) (record { absent = absent least.items first.holds; listed = listed least.items first.holds });
   agree = λ rest before. agree rest (subst (IsBefore (label ∷ rest)) e before);
 }
   where
-    absent : (path : List ℕ) → behind path ≡ true → file (label ∷ path) ≡ false
+    absent : (path : List ℕ) → following path ≡ true → file (label ∷ path) ≡ false
     absent [] holds = absurd (false≢true (sym empty ∙ holds))
     absent (after ∷ rest) holds = none after rest
 
-    listed : (path : List ℕ) → behind path ≡ true → list (label ∷ path) ≡ true
+    listed : (path : List ℕ) → following path ≡ true → list (label ∷ path) ≡ true
     listed [] holds = absurd (false≢true (sym empty ∙ holds))
     listed (after ∷ rest) holds = tails after rest ∙ holds
 
@@ -184,35 +184,35 @@ missing_more file list behind label least path e same none tails empty first = r
     agree (after ∷ rest) (inr before) = none after rest ∙ sym (tails after rest ∙ first.first (after ∷ rest) before.1)
 
 -- Both sides continue after the label: their strings there without it are those of two sets.
-pub record AreBehind (label : ℕ) (file list file_behind list_behind : List ℕ → Bool) : Type 0 where
+pub record AreAfter (label : ℕ) (file list file_after list_after : List ℕ → Bool) : Type 0 where
   pub same : file (label ∷ []) ≡ list (label ∷ [])
-  pub of_file : (after : ℕ) (rest : List ℕ) → file (label ∷ after ∷ rest) ≡ file_behind (after ∷ rest)
-  pub of_list : (after : ℕ) (rest : List ℕ) → list (label ∷ after ∷ rest) ≡ list_behind (after ∷ rest)
+  pub of_file : (after : ℕ) (rest : List ℕ) → file (label ∷ after ∷ rest) ≡ file_after (after ∷ rest)
+  pub of_list : (after : ℕ) (rest : List ℕ) → list (label ∷ after ∷ rest) ≡ list_after (after ∷ rest)
   pub begins : Begins list (label ∷ [])
 
-missing_behind : (label : ℕ) (file list file_behind list_behind : List ℕ → Bool) → AreBehind label file list file_behind list_behind
-    → (path : List ℕ) → 0 < length path → IsMissing file_behind list_behind path → IsMissing file list (label ∷ path)
-missing_behind label file list file_behind list_behind b [] some m = absurd (omega arith)
-missing_behind label file list file_behind list_behind b (after ∷ rest) some m =
+missing_following : (label : ℕ) (file list file_after list_after : List ℕ → Bool) → AreAfter label file list file_after list_after
+    → (path : List ℕ) → 0 < length path → IsMissing file_after list_after path → IsMissing file list (label ∷ path)
+missing_following label file list file_after list_after b [] some m = absurd (omega arith)
+missing_following label file list file_after list_after b (after ∷ rest) some m =
     record { absent = b.of_file after rest ∙ m.absent; listed = b.of_list after rest ∙ m.listed }
 
-known_behind : (label : ℕ) (file list file_behind list_behind : List ℕ → Bool) → AreBehind label file list file_behind list_behind
-    → (path : List ℕ) → ((front back : List ℕ) → path ≡ front ++ back → 0 < length front → 0 < length back → Begins list_behind front)
+known_after : (label : ℕ) (file list file_after list_after : List ℕ → Bool) → AreAfter label file list file_after list_after
+    → (path : List ℕ) → ((front back : List ℕ) → path ≡ front ++ back → 0 < length front → 0 < length back → Begins list_after front)
     → (front back : List ℕ) → label ∷ path ≡ front ++ back → 0 < length front → 0 < length back → Begins list front
-known_behind label file list file_behind list_behind b path known [] back parts some more = absurd (omega arith)
-known_behind label file list file_behind list_behind b path known (first ∷ []) back parts some more =
+known_after label file list file_after list_after b path known [] back parts some more = absurd (omega arith)
+known_after label file list file_after list_after b path known (first ∷ []) back parts some more =
     let here : label ≡ first = cc in
     subst (λ (l : ℕ). Begins list (l ∷ [])) here b.begins
-known_behind label file list file_behind list_behind b path known (first ∷ second ∷ front) back parts some more =
+known_after label file list file_after list_after b path known (first ∷ second ∷ front) back parts some more =
     let here : label ≡ first = cc in
     let rest : path ≡ second ∷ (front ++ back) = cc in
     let begins = known (second ∷ front) back rest (omega arith) more in
     subst (λ (l : ℕ). Begins list (l ∷ second ∷ front)) here (record { rest = begins.rest; holds = b.of_list second (front ++ begins.rest) ∙ begins.holds })
 
-extra_behind : (label : ℕ) (file list file_behind list_behind : List ℕ → Bool) → AreBehind label file list file_behind list_behind
-    → (path : List ℕ) → 0 < length path → IsExtra file_behind list_behind path → IsExtra file list (label ∷ path)
-extra_behind label file list file_behind list_behind b [] some x = absurd (omega arith)
-extra_behind label file list file_behind list_behind b (after ∷ path) some x = record {
+extra_after : (label : ℕ) (file list file_after list_after : List ℕ → Bool) → AreAfter label file list file_after list_after
+    → (path : List ℕ) → 0 < length path → IsExtra file_after list_after path → IsExtra file list (label ∷ path)
+extra_after label file list file_after list_after b [] some x = absurd (omega arith)
+extra_after label file list file_after list_after b (after ∷ path) some x = record {
   extra = elim (x.extra) [
     | inl here ↦ inl (b.of_file after path ∙ here.0, b.of_list after path ∙ here.1)
     | inr there ↦ inr (
@@ -220,36 +220,36 @@ extra_behind label file list file_behind list_behind b (after ∷ path) some x =
       λ rest. b.of_list after (path ++ rest) ∙ there.1 rest,
     )
   ];
-  known = known_behind label file list file_behind list_behind b (after ∷ path) x.known;
+  known = known_after label file list file_after list_after b (after ∷ path) x.known;
 }
 
-agree_behind : (label : ℕ) (file list file_behind list_behind : List ℕ → Bool) → AreBehind label file list file_behind list_behind
-    → (path : List ℕ) → ((string : List ℕ) → IsBefore string path → file_behind string ≡ list_behind string)
+agree_after : (label : ℕ) (file list file_after list_after : List ℕ → Bool) → AreAfter label file list file_after list_after
+    → (path : List ℕ) → ((string : List ℕ) → IsBefore string path → file_after string ≡ list_after string)
     → (rest : List ℕ) → IsBefore (label ∷ rest) (label ∷ path) → file (label ∷ rest) ≡ list (label ∷ rest)
-agree_behind label file list file_behind list_behind b path agree rest (inl lt) = absurd (omega arith)
-agree_behind label file list file_behind list_behind b path agree [] (inr before) = b.same
-agree_behind label file list file_behind list_behind b path agree (after ∷ rest) (inr before) =
+agree_after label file list file_after list_after b path agree rest (inl lt) = absurd (omega arith)
+agree_after label file list file_after list_after b path agree [] (inr before) = b.same
+agree_after label file list file_after list_after b path agree (after ∷ rest) (inr before) =
     b.of_file after rest ∙ agree (after ∷ rest) before.1 ∙ sym (b.of_list after rest)
 
-pub first_behind : (label : ℕ) (file list file_behind list_behind : List ℕ → Bool) → AreBehind label file list file_behind list_behind
-    → (difference longer : Difference) → IsLonger label difference longer → IsFirstDifference file_behind list_behind difference
+pub first_after : (label : ℕ) (file list file_after list_after : List ℕ → Bool) → AreAfter label file list file_after list_after
+    → (difference longer : Difference) → IsLonger label difference longer → IsFirstDifference file_after list_after difference
     → IsFirstUnder label file list longer
-first_behind label file list file_behind list_behind b (Missing path) (Missing longer) e first = record {
+first_after label file list file_after list_after b (Missing path) (Missing longer) e first = record {
   starts = (path.items, e);
-  differs = subst (IsMissing file list) (sym e) (missing_behind label file list file_behind list_behind b path.items first.some first.differs);
-  agree = λ rest before. agree_behind label file list file_behind list_behind b path.items first.agree rest (subst (IsBefore (label ∷ rest)) e before);
+  differs = subst (IsMissing file list) (sym e) (missing_following label file list file_after list_after b path.items first.some first.differs);
+  agree = λ rest before. agree_after label file list file_after list_after b path.items first.agree rest (subst (IsBefore (label ∷ rest)) e before);
 }
-first_behind label file list file_behind list_behind b (Extra path) (Extra longer) e first = record {
+first_after label file list file_after list_after b (Extra path) (Extra longer) e first = record {
   starts = (path.items, e);
-  differs = subst (IsExtra file list) (sym e) (extra_behind label file list file_behind list_behind b path.items first.some first.differs);
-  agree = λ rest before. agree_behind label file list file_behind list_behind b path.items first.agree rest (subst (IsBefore (label ∷ rest)) e before);
+  differs = subst (IsExtra file list) (sym e) (extra_after label file list file_after list_after b path.items first.some first.differs);
+  agree = λ rest before. agree_after label file list file_after list_after b path.items first.agree rest (subst (IsBefore (label ∷ rest)) e before);
 }
-first_behind label file list file_behind list_behind b (Missing path) (Extra longer) e first = absurd e
-first_behind label file list file_behind list_behind b (Extra path) (Missing longer) e first = absurd e
+first_after label file list file_after list_after b (Missing path) (Extra longer) e first = absurd e
+first_after label file list file_after list_after b (Extra path) (Missing longer) e first = absurd e
 
-pub all_behind : (label : ℕ) (file list file_behind list_behind : List ℕ → Bool) → AreBehind label file list file_behind list_behind
-    → ((string : List ℕ) → file_behind string ≡ list_behind string) → (rest : List ℕ) → file (label ∷ rest) ≡ list (label ∷ rest)
-all_behind label file list file_behind list_behind b all =
+pub all_after : (label : ℕ) (file list file_after list_after : List ℕ → Bool) → AreAfter label file list file_after list_after
+    → ((string : List ℕ) → file_after string ≡ list_after string) → (rest : List ℕ) → file (label ∷ rest) ≡ list (label ∷ rest)
+all_after label file list file_after list_after b all =
     same_under file list label b.same (λ after rest. b.of_file after rest ∙ all (after ∷ rest) ∙ sym (b.of_list after rest))
 
 -- ---- over all labels
@@ -294,23 +294,23 @@ pub same_ends : (here listed in_file in_list : Bool) → here ≡ in_file → li
 same_ends here listed in_file in_list a b same = sym a ∙ same_test here listed same ∙ b
 
 -- what a meeting that continues says
-pub are_behind : {M N : Type 0} (is_m : M → Type 0) (tail_m : M → List ℕ → Bool) (height_m : M → ℕ) (m : M)
+pub are_after : {M N : Type 0} (is_m : M → Type 0) (tail_m : M → List ℕ → Bool) (height_m : M → ℕ) (m : M)
     (is_n : N → Type 0) (tail_n : N → List ℕ → Bool) (height_n : N → ℕ) (n : N) (label : ℕ) (next : M) (listed_next : N)
-    → IsBehind is_m tail_m height_m m label next → IsBehind is_n tail_n height_n n label listed_next
+    → IsAfter is_m tail_m height_m m label next → IsAfter is_n tail_n height_n n label listed_next
     → tail_m m (label ∷ []) ≡ tail_n n (label ∷ [])
-    → AreBehind label (tail_m m) (tail_n n) (tail_m next) (tail_n listed_next)
-are_behind is_m tail_m height_m m is_n tail_n height_n n label next listed_next behind listed_behind same = record {
+    → AreAfter label (tail_m m) (tail_n n) (tail_m next) (tail_n listed_next)
+are_after is_m tail_m height_m m is_n tail_n height_n n label next listed_next following listed_after same = record {
   same = same;
-  of_file = behind.tails;
-  of_list = listed_behind.tails;
-  begins = looked_longer is_n tail_n height_n n label listed_next listed_behind;
+  of_file = following.tails;
+  of_list = listed_after.tails;
+  begins = looked_longer is_n tail_n height_n n label listed_next listed_after;
 }
 
 -- sets that are the same up to one label are the same up to the next
 pub same_further : (file list : List ℕ → Bool) (from to : ℕ) → AreSameBetween file list 0 from → AreSameBetween file list from to → AreSameBetween file list 0 to
-same_further file list from to before behind label rest low lt = elim (cases_lt label from) [
+same_further file list from to before following label rest low lt = elim (cases_lt label from) [
   | inl less ↦ before label rest low less
-  | inr le ↦ behind label rest le lt
+  | inr le ↦ following label rest le lt
 ]
 
 pub same_next : (file list : List ℕ → Bool) (to : ℕ) → AreSameBetween file list 0 to

@@ -1,6 +1,6 @@
 pub mod Held
 pub mod Firsts
-pub mod LeftStrings
+pub mod RemainingStrings
 pub mod Stretches
 pub mod Rotations
 pub mod Agreements

@@ -21,8 +21,8 @@ use Rattle.lex_list.specs.Laws.{PathsAreTested}
 use Rattle.lex_file.specs.Lexicons.{is_label}
 use Rattle.lex_list.specs.RotatedPaths.{label_of, marked, path_of, IsPath, StandsFor}
 use Rattle.lex_check.specs.Stretches.{IsPathOfLabels, IsPathList, is_one_of}
-use Rattle.lex_check.specs.StretchLaws.{left_to}
-use Rattle.lex_check.proofs.LeftStrings.{left_from}
+use Rattle.lex_check.specs.laws.Stretches.{remaining_to}
+use Rattle.lex_check.proofs.RemainingStrings.{remaining_from}
 use Rattle.lex_check.proofs.Stretches.{same_tests}
 use Rattle.lex_check.specs.Rotations.{paths_of, gathered}
 use Rattle.lex_check.proofs.Held.{number_of, number_order}
@@ -277,10 +277,10 @@ pub kept_paths : (words paths sorted kept : List (List ℕ)) → list_all is_wor
 kept_paths words paths sorted kept all e o tested string =
     same_tests _ _
     (λ h.
-    let at = left_to kept 0 string 0 (length kept) h in
+    let at = remaining_to kept 0 string 0 (length kept) h in
     let to = at.to in
     let lt : at.place < length kept = omega arith in
-    let has : Contains kept string = (at.place, lt, read_at kept at.place string lt ∙ sym at.left) in
+    let has : Contains kept string = (at.place, lt, read_at kept at.place string lt ∙ sym at.remaining) in
     (tested words (capitals_in words all) string).1
     (gathered_split words string
     (gathered_to words (length words) string (subst (λ (xs : List (List ℕ)). Contains xs string) e (kept_to paths sorted kept string o has)))))
@@ -289,5 +289,5 @@ kept_paths words paths sorted kept all e o tested string =
     let has = kept_from paths sorted kept string o
     (subst (λ (xs : List (List ℕ)). Contains xs string) (sym e) (gathered_from words (length words) string (split_gathered words string path))) in
     let lt = has.1 in
-    left_from kept 0 string 0 (length kept)
-    (record { place = has.0; from = omega arith; to = omega arith; left = sym (sym (read_at kept has.0 string has.1) ∙ has.2) }))
+    remaining_from kept 0 string 0 (length kept)
+    (record { place = has.0; from = omega arith; to = omega arith; remaining = sym (sym (read_at kept has.0 string has.1) ∙ has.2) }))

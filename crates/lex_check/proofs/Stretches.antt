@@ -6,17 +6,17 @@ use Rattle.std.proofs.lemmas.Map.Keys.{Less-from_sorted}
 use Rattle.std.specs.Cmp.Lexicographic.{slice_cmp}
 use Rattle.std.specs.Ordering.{nat_cmp, ordering_then}
 use Rattle.std.specs.declared.cmp.Ordering.TheVariants.{Less, Equal, Greater}
-use Rattle.lex_file.specs.Lexicons.{is_label, IsBehind}
+use Rattle.lex_file.specs.Lexicons.{is_label, IsAfter}
 use Rattle.lex_check.specs.Orders.{IsBefore}
 use Rattle.lex_check.specs.declared.sorted.Stretch.{Stretch}
-use Rattle.lex_check.specs.Stretches.{label_at, left_at, IsStretch, IsPartWith, IsPlaceFrom, IsBelow, IsPartFrom, height_of, stretch_tail, ends_at, is_left, is_one_of, IsPathList}
-use Rattle.lex_check.specs.StretchLaws.{IsLeft, tail_to, tail_none}
-use Rattle.lex_check.proofs.LeftStrings.{tail_from}
+use Rattle.lex_check.specs.Stretches.{label_at, remaining_at, IsStretch, IsPartWith, IsPlaceFrom, IsBelow, IsPartFrom, height_of, stretch_tail, ends_at, is_remaining, is_one_of, IsPathList}
+use Rattle.lex_check.specs.laws.Stretches.{IsRemaining, tail_to, tail_none}
+use Rattle.lex_check.proofs.RemainingStrings.{tail_from}
 
 -- what is left of a path begins with its label at the depth
-pub left_cons : (paths : List (List ℕ)) (depth place : ℕ) → depth < length (get_or paths place [])
-    → left_at paths depth place ≡ label_at paths depth place ∷ left_at paths (depth + 1) place
-left_cons paths depth place long = drop-cons (get_or paths place []) depth 0 long ∙ rw add-one refl
+pub remaining_cons : (paths : List (List ℕ)) (depth place : ℕ) → depth < length (get_or paths place [])
+    → remaining_at paths depth place ≡ label_at paths depth place ∷ remaining_at paths (depth + 1) place
+remaining_cons paths depth place long = drop-cons (get_or paths place []) depth 0 long ∙ rw add-one refl
 
 before_heads : (a b : ℕ) (xs ys : List ℕ) → IsBefore (a ∷ xs) (b ∷ ys) → a ≤ b
 before_heads a b xs ys (inl lt) = omega arith
@@ -40,8 +40,8 @@ pub labels_rise : (paths : List (List ℕ)) (stretch : Stretch) → IsStretch pa
 labels_rise paths stretch is one other from le to = elim (cases_lt one other) [
   | inl lt ↦
       let before = is.rising one other from lt to in
-      let here = left_cons paths stretch.depth one (is.long one from (omega arith)) in
-      let there = left_cons paths stretch.depth other (is.long other (omega arith) to) in
+      let here = remaining_cons paths stretch.depth one (is.long one from (omega arith)) in
+      let there = remaining_cons paths stretch.depth other (is.long other (omega arith) to) in
       before_heads (label_at paths stretch.depth one) (label_at paths stretch.depth other) _ _ (rw there at (rw here at before))
   | inr more ↦ let same : one ≡ other = omega arith in rw same (omega arith)
 ]
@@ -50,7 +50,7 @@ labels_rise paths stretch is one other from le to = elim (cases_lt one other) [
 pub label_below : (paths : List (List ℕ)) (stretch : Stretch) → IsStretch paths stretch → (place : ℕ) → stretch.low ≤ place → place < stretch.high
     → label_at paths stretch.depth place < 27
 label_below paths stretch is place from to =
-    let here = left_cons paths stretch.depth place (is.long place from to) in
+    let here = remaining_cons paths stretch.depth place (is.long place from to) in
     let all = rw here at (is.labels place from to) in
     ltb-true (label_at paths stretch.depth place) 27 (and_parts (is_label (label_at paths stretch.depth place)) _ all).0
 
@@ -87,7 +87,7 @@ place_empty paths stretch label same = record {
   from = omega arith;
   to = omega arith;
   before = λ other a b. absurd (omega arith);
-  behind = λ other a b. absurd (omega arith);
+  following = λ other a b. absurd (omega arith);
 }
 
 pub place_first : (paths : List (List ℕ)) (stretch : Stretch) (label : ℕ) → IsStretch paths stretch → label ≤ label_at paths stretch.depth stretch.low
@@ -98,7 +98,7 @@ place_first paths stretch label is le =
       from = omega arith;
       to = order;
       before = λ other a b. absurd (omega arith);
-      behind = λ other a b. let rise = labels_rise paths stretch is stretch.low other (omega arith) a b in omega arith;
+      following = λ other a b. let rise = labels_rise paths stretch is stretch.low other (omega arith) a b in omega arith;
     }
 
 pub place_none : (paths : List (List ℕ)) (stretch : Stretch) (label : ℕ) → IsStretch paths stretch → stretch.low ≢ stretch.high
@@ -109,7 +109,7 @@ place_none paths stretch label is some lt =
       from = order;
       to = omega arith;
       before = λ other a b. let rise = labels_rise paths stretch is other (stretch.high - 1) a (omega arith) (omega arith) in omega arith;
-      behind = λ other a b. absurd (omega arith);
+      following = λ other a b. absurd (omega arith);
     }
 
 -- ---- the part with a label
@@ -134,11 +134,11 @@ pub part_between : (paths : List (List ℕ)) (stretch : Stretch) (label low high
     → ((place : ℕ) → low ≤ place → place < high → label_at paths stretch.depth place < label + 1)
     → ((place : ℕ) → high ≤ place → place < stretch.high → label + 1 ≤ label_at paths stretch.depth place)
     → IsPartWith paths stretch label low high
-part_between paths stretch label low high is from order to before behind before_next behind_next = record {
+part_between paths stretch label low high is from order to before following before_next after_next = record {
   from = from;
   order = order;
   to = to;
-  all = λ place a b. let h = behind place a (omega arith) in let k = before_next place a b in omega arith;
+  all = λ place a b. let h = following place a (omega arith) in let k = before_next place a b in omega arith;
   only = only;
 }
   where
@@ -150,7 +150,7 @@ part_between paths stretch label low high is from order to before behind before_
         ] in
         let below : place < high = elim (cases_lt place high) [
           | inl lt ↦ lt
-          | inr le ↦ let h = behind_next place le b in absurd (omega arith)
+          | inr le ↦ let h = after_next place le b in absurd (omega arith)
         ] in
         (above, below)
 
@@ -169,16 +169,16 @@ part_from paths stretch from label low high is start some here end =
     let above = start.to in
     let past = end.from in
     let inside = end.to in
-    let reached = start.behind low (omega arith) (omega arith) in
+    let reached = start.following low (omega arith) (omega arith) in
     let high_some : low < high = elim (cases_lt low high) [
       | inl lt ↦ lt
-      | inr le ↦ let h = end.behind low (omega arith) (omega arith) in absurd (omega arith)
+      | inr le ↦ let h = end.following low (omega arith) (omega arith) in absurd (omega arith)
     ] in
     record {
       with = part_between paths stretch label low high is below past inside
           (λ place a b. let h = start.before place a b in omega arith)
           (λ place a b. let rise = labels_rise paths stretch is low place below a b in omega arith)
-          end.before end.behind;
+          end.before end.following;
       some = high_some;
       reached = omega arith;
       before = start.before;
@@ -187,37 +187,37 @@ part_from paths stretch from label low high is start some here end =
 -- ---- the step
 
 part_label : (paths : List (List ℕ)) (stretch : Stretch) (label low high : ℕ) → IsStretch paths stretch → IsPartWith paths stretch label low high
-    → (place : ℕ) → low ≤ place → place < high → left_at paths stretch.depth place ≡ label ∷ left_at paths (stretch.depth + 1) place
+    → (place : ℕ) → low ≤ place → place < high → remaining_at paths stretch.depth place ≡ label ∷ remaining_at paths (stretch.depth + 1) place
 part_label paths stretch label low high is with place from to =
     let below = with.from in
     let above = with.to in
-    let here = left_cons paths stretch.depth place (is.long place (omega arith) (omega arith)) in
-    here ∙ ap (λ (l : ℕ). l ∷ left_at paths (stretch.depth + 1) place) (with.all place from to)
+    let here = remaining_cons paths stretch.depth place (is.long place (omega arith) (omega arith)) in
+    here ∙ ap (λ (l : ℕ). l ∷ remaining_at paths (stretch.depth + 1) place) (with.all place from to)
 
 -- a string that begins with the label is left only of a path of the part
 pub in_part : (paths : List (List ℕ)) (stretch : Stretch) (label low high : ℕ) → IsStretch paths stretch → IsPartWith paths stretch label low high
-    → (rest : List ℕ) → IsLeft paths stretch.depth (label ∷ rest) stretch.low stretch.high → IsLeft paths (stretch.depth + 1) rest low high
+    → (rest : List ℕ) → IsRemaining paths stretch.depth (label ∷ rest) stretch.low stretch.high → IsRemaining paths (stretch.depth + 1) rest low high
 in_part paths stretch label low high is with rest at =
-    let here = left_cons paths stretch.depth at.place (is.long at.place at.from at.to) in
-    let both = at.left ∙ here in
+    let here = remaining_cons paths stretch.depth at.place (is.long at.place at.from at.to) in
+    let both = at.remaining ∙ here in
     let same : label ≡ label_at paths stretch.depth at.place = cc in
     let inside = with.only at.place at.from at.to (sym same) in
-    record { place = at.place; from = inside.0; to = inside.1; left = cc }
+    record { place = at.place; from = inside.0; to = inside.1; remaining = cc }
 
 pub of_part : (paths : List (List ℕ)) (stretch : Stretch) (label low high : ℕ) → IsStretch paths stretch → IsPartWith paths stretch label low high
-    → (rest : List ℕ) → IsLeft paths (stretch.depth + 1) rest low high → IsLeft paths stretch.depth (label ∷ rest) stretch.low stretch.high
+    → (rest : List ℕ) → IsRemaining paths (stretch.depth + 1) rest low high → IsRemaining paths stretch.depth (label ∷ rest) stretch.low stretch.high
 of_part paths stretch label low high is with rest at =
     record {
       place = at.place;
       from = omega arith;
       to = omega arith;
-      left = ap (λ (r : List ℕ). label ∷ r) at.left ∙ sym (part_label paths stretch label low high is with at.place at.from at.to);
+      remaining = ap (λ (r : List ℕ). label ∷ r) at.remaining ∙ sym (part_label paths stretch label low high is with at.place at.from at.to);
     }
 
 -- after the first path of a part, each path has a further label
-pub long_behind : (paths : List (List ℕ)) (stretch : Stretch) (label low high : ℕ) → IsStretch paths stretch → IsPartWith paths stretch label low high
+pub long_after : (paths : List (List ℕ)) (stretch : Stretch) (label low high : ℕ) → IsStretch paths stretch → IsPartWith paths stretch label low high
     → (place : ℕ) → low < place → place < high → stretch.depth + 1 < length (get_or paths place [])
-long_behind paths stretch label low high is with place from to =
+long_after paths stretch label low high is with place from to =
     let below = with.from in
     let above = with.to in
     let before = is.rising low place below from (omega arith) in
@@ -251,7 +251,7 @@ deeper_is paths stretch label low high next is with le order first =
   where
     long : (place : ℕ) → next ≤ place → place < high → stretch.depth + 1 < length (get_or paths place [])
     long place a b = elim (cases_lt low place) [
-      | inl lt ↦ long_behind paths stretch label low high is with place lt b
+      | inl lt ↦ long_after paths stretch label low high is with place lt b
       | inr same ↦
           let e : place ≡ low = omega arith in
           rw e (first (omega arith))
@@ -278,25 +278,25 @@ step_accepts paths stretch label low high is with some = same_tests _ _ from_len
     from_length : ends_at paths (stretch.depth + 1) low ≡ true → stretch_tail paths stretch (label ∷ []) ≡ true
     from_length e =
         let size = eqb-true _ _ e in
-        let left = length-drop (stretch.depth + 1) (get_or paths low []) in
-        let none = empty_of_length (left_at paths (stretch.depth + 1) low) (omega arith) in
+        let remaining = length-drop (stretch.depth + 1) (get_or paths low []) in
+        let none = empty_of_length (remaining_at paths (stretch.depth + 1) low) (omega arith) in
         tail_from paths stretch (label ∷ []) is
-        (of_part paths stretch label low high is with [] (record { place = low; from = omega arith; to = some; left = sym none }))
+        (of_part paths stretch label low high is with [] (record { place = low; from = omega arith; to = some; remaining = sym none }))
 
     to_length : stretch_tail paths stretch (label ∷ []) ≡ true → ends_at paths (stretch.depth + 1) low ≡ true
     to_length e =
         let at = in_part paths stretch label low high is with [] (tail_to paths stretch (label ∷ []) is e) in
-        let size = ap length at.left in
-        let left = length-drop (stretch.depth + 1) (get_or paths at.place []) in
+        let size = ap length at.remaining in
+        let remaining = length-drop (stretch.depth + 1) (get_or paths at.place []) in
         let from = at.from in
         let low_in = with.from in
         let high_in = with.to in
         let long = is.long low low_in (omega arith) in
         let here : at.place ≡ low = elim (cases_lt low at.place) [
-          | inl lt ↦ let more = long_behind paths stretch label low high is with at.place lt at.to in absurd (omega arith)
+          | inl lt ↦ let more = long_after paths stretch label low high is with at.place lt at.to in absurd (omega arith)
           | inr le ↦ omega arith
         ] in
-        let left_low = rw here at left in
+        let remaining_low = rw here at remaining in
         let size_low = rw here at size in
         let all : length (get_or paths low []) ≡ stretch.depth + 1 = omega arith in
         eq-eqb _ _ all
@@ -315,49 +315,49 @@ part_long paths stretch label low high is with some e =
 -- what follows the paths that end with the label
 module _ (paths : List (List ℕ)) (stretch : Stretch) (label low high next : ℕ) (is : IsStretch paths stretch) (with : IsPartWith paths stretch label low high)
     (le : low ≤ next) (short : (place : ℕ) → low ≤ place → place < next → length (get_or paths place []) ≡ stretch.depth + 1) where
-  behind : (after : ℕ) (rest : List ℕ) → IsLeft paths stretch.depth (label ∷ after ∷ rest) stretch.low stretch.high
-      → IsLeft paths (stretch.depth + 1) (after ∷ rest) next high
-  behind after rest at =
+  following : (after : ℕ) (rest : List ℕ) → IsRemaining paths stretch.depth (label ∷ after ∷ rest) stretch.low stretch.high
+      → IsRemaining paths (stretch.depth + 1) (after ∷ rest) next high
+  following after rest at =
       let there = in_part paths stretch label low high is with (after ∷ rest) at in
       let from : next ≤ there.place = elim (cases_lt there.place next) [
         | inl lt ↦
-            let size = ap length there.left in
-            let left = length-drop (stretch.depth + 1) (get_or paths there.place []) in
+            let size = ap length there.remaining in
+            let remaining = length-drop (stretch.depth + 1) (get_or paths there.place []) in
             let all = short there.place there.from lt in
             absurd (omega arith)
         | inr more ↦ more
       ] in
-      record { place = there.place; from = from; to = there.to; left = there.left }
+      record { place = there.place; from = from; to = there.to; remaining = there.remaining }
 
   pub step_ends : high ≤ next → (after : ℕ) (rest : List ℕ) → stretch_tail paths stretch (label ∷ after ∷ rest) ≡ false
   step_ends past after rest =
       tail_none paths stretch (label ∷ after ∷ rest) is (λ at.
-      let there = behind after rest at in
+      let there = following after rest at in
       let from = there.from in
       let to = there.to in
       omega arith)
 
   pub step_next : next < high → (next ≡ low → stretch.depth + 1 < length (get_or paths low []))
-      → IsBehind (IsStretch paths) (stretch_tail paths) height_of stretch label (record { low = next; high = high; depth = stretch.depth + 1 })
+      → IsAfter (IsStretch paths) (stretch_tail paths) height_of stretch label (record { low = next; high = high; depth = stretch.depth + 1 })
   step_next some first =
       let node = deeper_is paths stretch label low high next is with le (omega arith) first in
       let long = node.long next (omega arith) some in
       let few = node.few next (omega arith) some in
-      let here = left_cons paths (stretch.depth + 1) next long in
+      let here = remaining_cons paths (stretch.depth + 1) next long in
       record {
         node = node;
         tails = λ after rest.
             same_tests _ _
-            (λ e. tail_from paths (record { low = next; high = high; depth = stretch.depth + 1 }) (after ∷ rest) node (behind after rest (tail_to paths stretch (label ∷ after ∷ rest) is e)))
+            (λ e. tail_from paths (record { low = next; high = high; depth = stretch.depth + 1 }) (after ∷ rest) node (following after rest (tail_to paths stretch (label ∷ after ∷ rest) is e)))
             (λ e.
             let at = tail_to paths (record { low = next; high = high; depth = stretch.depth + 1 }) (after ∷ rest) node e in
             let from = at.from in
             tail_from paths stretch (label ∷ after ∷ rest) is
-            (of_part paths stretch label low high is with (after ∷ rest) (record { place = at.place; from = omega arith; to = at.to; left = at.left })));
+            (of_part paths stretch label low high is with (after ∷ rest) (record { place = at.place; from = omega arith; to = at.to; remaining = at.remaining })));
         some = (
           label_at paths (stretch.depth + 1) next,
-          left_at paths (stretch.depth + 1 + 1) next,
-          tail_from paths (record { low = next; high = high; depth = stretch.depth + 1 }) _ node (record { place = next; from = omega arith; to = some; left = sym here }),
+          remaining_at paths (stretch.depth + 1 + 1) next,
+          tail_from paths (record { low = next; high = high; depth = stretch.depth + 1 }) _ node (record { place = next; from = omega arith; to = some; remaining = sym here }),
         );
         falls = omega arith;
       }
@@ -386,8 +386,8 @@ branch_passed paths stretch from found low high is part label le lt =
     no_tail paths stretch label is (λ place a b same.
     elim (cases_lt place low) [
       | inl before ↦ let h = part.before place a before in omega arith
-      | inr behind ↦
-          let rise = labels_rise paths stretch is low place below behind b in
+      | inr following ↦
+          let rise = labels_rise paths stretch is low place below following b in
           let here = with.all low (omega arith) some in
           omega arith
     ])
@@ -419,7 +419,7 @@ root_is paths list = record {
 pub root_tails : (paths : List (List ℕ)) (string : List ℕ) → stretch_tail paths (record { low = 0; high = length paths; depth = 0 }) string ≡ is_one_of paths string
 root_tails paths string =
     let all : length paths - 0 ≡ length paths = omega arith in
-    ap (is_left paths 0 string 0) all
+    ap (is_remaining paths 0 string 0) all
 
 -- where the paths of a part that do not end with the label begin
 pub record IsRest (paths : List (List ℕ)) (depth low high next : ℕ) : Type 0 where

@@ -19,7 +19,7 @@ step_at None label = nothing
 step_at (Some branch) label = if branch.label == label then branch.step else nothing
 
 -- A step says what follows a label of a node: whether the label alone is a tail, and the node of the longer ones.
-pub record StandsBehind {N : Type 0} (is_node : N → Type 0) (tail : N → List ℕ → Bool) (height : N → ℕ) (node : N) (label : ℕ) (step : Step N) : Type 0 where
+pub record StandsAfter {N : Type 0} (is_node : N → Type 0) (tail : N → List ℕ → Bool) (height : N → ℕ) (node : N) (label : ℕ) (step : Step N) : Type 0 where
   pub accepts : step.accepts ≡ tail node (label ∷ [])
   pub next : NextGives is_node tail height node label step.next
 

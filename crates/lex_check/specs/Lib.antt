@@ -4,8 +4,7 @@ pub mod Meetings
 pub mod Forks
 pub mod Held
 pub mod Stretches
-pub mod StretchLaws
+pub mod laws
 pub mod Rotations
 pub mod Checks
 pub mod Pairs
-pub mod Laws

@@ -1,6 +1,6 @@
 -- How the strings of two sets that begin with one label compare, as far as one step decides.
 use Rattle.std.specs.Prelude.{◌≡◌, ℕ, ◌≤◌, Bool, true, false, List, [], ◌∷◌, length}
-use Rattle.lex_file.specs.Lexicons.{IsBehind}
+use Rattle.lex_file.specs.Lexicons.{IsAfter}
 use Rattle.lex_check.specs.declared.differences.Difference.{Difference}
 use Rattle.lex_check.specs.declared.differences.Difference.TheVariants.{Missing, Extra}
 use Rattle.lex_check.specs.declared.meetings.Meeting.{Meeting}
@@ -24,7 +24,7 @@ IsEnded label in_file (Missing path) = (in_file ≡ false) × (path.items ≡ la
 abbrev pub MeetingGives : {M N : Type 0} → (M → Type 0) → (M → List ℕ → Bool) → (M → ℕ) → M → (N → Type 0) → (N → List ℕ → Bool) → (N → ℕ) → N → ℕ → Meeting M N → Type 0
 MeetingGives is_m tail_m height_m m is_n tail_n height_n n label Agree = (rest : List ℕ) → tail_m m (label ∷ rest) ≡ tail_n n (label ∷ rest)
 MeetingGives is_m tail_m height_m m is_n tail_n height_n n label (Deeper next listed_next) =
-    IsBehind is_m tail_m height_m m label next × IsBehind is_n tail_n height_n n label listed_next
+    IsAfter is_m tail_m height_m m label next × IsAfter is_n tail_n height_n n label listed_next
     × (tail_m m (label ∷ []) ≡ tail_n n (label ∷ []))
 MeetingGives is_m tail_m height_m m is_n tail_n height_n n label (Differ difference) = IsFirstUnder label (tail_m m) (tail_n n) difference
 

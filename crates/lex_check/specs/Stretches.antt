@@ -24,13 +24,13 @@ abbrev pub label_at : List (List ℕ) → ℕ → ℕ → ℕ
 label_at paths depth place = slice_index (slice_index_or paths place []) depth
 
 -- what is left of the path at a place, without its first labels
-abbrev pub left_at : List (List ℕ) → ℕ → ℕ → List ℕ
-left_at paths depth place = drop depth (slice_index_or paths place [])
+abbrev pub remaining_at : List (List ℕ) → ℕ → ℕ → List ℕ
+remaining_at paths depth place = drop depth (slice_index_or paths place [])
 
 -- whether a string is what is left of one of the paths at `count` places from `low` on
-unfoldable pub is_left : List (List ℕ) → ℕ → List ℕ → ℕ → ℕ → Bool
-is_left paths depth string low zero = false
-is_left paths depth string low (suc count) = pointwise nat_eq string (left_at paths depth low) || is_left paths depth string (suc low) count
+unfoldable pub is_remaining : List (List ℕ) → ℕ → List ℕ → ℕ → ℕ → Bool
+is_remaining paths depth string low zero = false
+is_remaining paths depth string low (suc count) = pointwise nat_eq string (remaining_at paths depth low) || is_remaining paths depth string (suc low) count
 
 -- A stretch: what is left of its paths is not empty, and is in order.
 pub record IsStretch (paths : List (List ℕ)) (stretch : Stretch) : Type 0 where
@@ -38,12 +38,12 @@ pub record IsStretch (paths : List (List ℕ)) (stretch : Stretch) : Type 0 wher
   pub inside : stretch.high ≤ length paths
   pub long : (place : ℕ) → stretch.low ≤ place → place < stretch.high → stretch.depth < length (slice_index_or paths place [])
   pub few : (place : ℕ) → stretch.low ≤ place → place < stretch.high → length (slice_index_or paths place []) ≤ 16
-  pub labels : (place : ℕ) → stretch.low ≤ place → place < stretch.high → list_all is_label (left_at paths stretch.depth place) ≡ true
-  pub rising : (one other : ℕ) → stretch.low ≤ one → one < other → other < stretch.high → IsBefore (left_at paths stretch.depth one) (left_at paths stretch.depth other)
+  pub labels : (place : ℕ) → stretch.low ≤ place → place < stretch.high → list_all is_label (remaining_at paths stretch.depth place) ≡ true
+  pub rising : (one other : ℕ) → stretch.low ≤ one → one < other → other < stretch.high → IsBefore (remaining_at paths stretch.depth one) (remaining_at paths stretch.depth other)
 
 -- the tails of a stretch
 abbrev pub stretch_tail : List (List ℕ) → Stretch → List ℕ → Bool
-stretch_tail paths stretch string = is_left paths stretch.depth string stretch.low (stretch.high - stretch.low)
+stretch_tail paths stretch string = is_remaining paths stretch.depth string stretch.low (stretch.high - stretch.low)
 
 -- a path has at most 16 labels, so at most this many are left
 abbrev pub height_of : Stretch → ℕ
@@ -51,7 +51,7 @@ height_of stretch = 16 - stretch.depth
 
 -- whether a string is one of the paths
 abbrev pub is_one_of : List (List ℕ) → List ℕ → Bool
-is_one_of paths string = is_left paths 0 string 0 (length paths)
+is_one_of paths string = is_remaining paths 0 string 0 (length paths)
 
 -- The part of a stretch, from one place up to another, whose paths have the label at the depth.
 pub record IsPartWith (paths : List (List ℕ)) (stretch : Stretch) (label low high : ℕ) : Type 0 where
@@ -70,7 +70,7 @@ pub record IsPlaceFrom (paths : List (List ℕ)) (stretch : Stretch) (label plac
   pub from : stretch.low ≤ place
   pub to : place ≤ stretch.high
   pub before : (other : ℕ) → stretch.low ≤ other → other < place → label_at paths stretch.depth other < label
-  pub behind : (other : ℕ) → place ≤ other → other < stretch.high → label ≤ label_at paths stretch.depth other
+  pub following : (other : ℕ) → place ≤ other → other < stretch.high → label ≤ label_at paths stretch.depth other
 
 -- the part of a stretch with the first label from one on
 pub record IsPartFrom (paths : List (List ℕ)) (stretch : Stretch) (from label low high : ℕ) : Type 0 where

@@ -1,6 +1,6 @@
 //! The next label of two nodes at once.
 ghost use Rattle.std.specs.Prelude.{◌≡◌, ◌≤◌, ◌<◌, IfNone, IfSome};
-ghost use Rattle.lex_check.specs.Forks.{label_or_end, step_at, StandsBehind, AreSameBetween};
+ghost use Rattle.lex_check.specs.Forks.{label_or_end, step_at, StandsAfter, AreSameBetween};
 
 use lex_file::{Branch, LABELS, PathLex, Step};
 
@@ -49,8 +49,8 @@ pub fn fork_from<A: PathLex, B: PathLex>(
     ensures same { IfSome result (λ fork. AreSameBetween (A.tail file.now of_file) (B.tail list.now of_list) from fork.label) }
     ensures reached { IfSome result (λ fork. from ≤ fork.label) }
     ensures low { IfSome result (λ fork. fork.label < 27) }
-    ensures here { IfSome result (λ fork. StandsBehind (A.is_node file.now) (A.tail file.now) (A.height file.now) of_file fork.label fork.here) }
-    ensures listed { IfSome result (λ fork. StandsBehind (B.is_node list.now) (B.tail list.now) (B.height list.now) of_list fork.label fork.listed) }
+    ensures here { IfSome result (λ fork. StandsAfter (A.is_node file.now) (A.tail file.now) (A.height file.now) of_file fork.label fork.here) }
+    ensures listed { IfSome result (λ fork. StandsAfter (B.is_node list.now) (B.tail list.now) (B.height list.now) of_list fork.label fork.listed) }
 {
     let here = file.branch_from(of_file, from);
     let listed = list.branch_from(of_list, from);

@@ -1,5 +1,5 @@
 //! The law of compiled lexicons. The function does nothing: its contract is the law.
-ghost use Rattle.lex_check.specs.Laws.{LexiconsAreExact};
+ghost use Rattle.lex_check.specs.laws.{LexiconsAreExact};
 
 use lex_file::law_of_language;
 use lex_list::{law_of_lists, law_of_paths};

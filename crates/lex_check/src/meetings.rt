@@ -1,7 +1,7 @@
 //! How the tails of two nodes compare at one label.
 ghost use Rattle.std.specs.Prelude.{◌≡◌, ◌≤◌, ◌<◌, ◌+◌, length};
 ghost use Rattle.lex_check.specs.Meetings.{MeetingGives, IsShort, IsEnded};
-ghost use Rattle.lex_check.specs.Forks.{StandsBehind};
+ghost use Rattle.lex_check.specs.Forks.{StandsAfter};
 
 use crate::differences::{Difference, only, with_front};
 use crate::forks::Fork;
@@ -41,8 +41,8 @@ pub fn meet<A: PathLex, B: PathLex>(
     requires file { A.is_node file.now of_file }
     requires list { B.is_node list.now of_list }
     requires low { B.height list.now of_list ≤ 16 }
-    requires here { StandsBehind (A.is_node file.now) (A.tail file.now) (A.height file.now) of_file fork.label fork.here }
-    requires listed { StandsBehind (B.is_node list.now) (B.tail list.now) (B.height list.now) of_list fork.label fork.listed }
+    requires here { StandsAfter (A.is_node file.now) (A.tail file.now) (A.height file.now) of_file fork.label fork.here }
+    requires listed { StandsAfter (B.is_node list.now) (B.tail list.now) (B.height list.now) of_list fork.label fork.listed }
     ensures gives { MeetingGives (A.is_node file.now) (A.tail file.now) (A.height file.now) of_file (B.is_node list.now) (B.tail list.now) (B.height list.now) of_list fork.label result }
     ensures short { IsShort (B.height list.now of_list + 1) result }
 {

@@ -125,7 +125,7 @@ fn ends_at(paths: &[Rotated], depth: usize, place: usize) -> bool
 
 /// What follows the label of a part of a stretch.
 #[inline(always)]
-fn step_behind(paths: &[Rotated], stretch: Stretch, part: Part) -> Step<Stretch>
+fn step_after(paths: &[Rotated], stretch: Stretch, part: Part) -> Step<Stretch>
     requires stretch { IsStretch paths.now stretch }
     requires part { IsPartWith paths.now stretch part.label part.low part.high }
     requires some { part.low < part.high }
@@ -169,7 +169,7 @@ fn branch_in(paths: &[Rotated], stretch: Stretch, from: u8) -> Option<Branch<Str
     };
     Some(Branch {
         label: part.label,
-        step: step_behind(paths, stretch, part),
+        step: step_after(paths, stretch, part),
     })
 }
 
@@ -193,7 +193,7 @@ fn step_in(paths: &[Rotated], stretch: Stretch, label: u8) -> Option<Step<Stretc
 impl PathLex for SortedPaths {
     ghost use Rattle.std.specs.Prelude.{List, ℕ};
     ghost use Rattle.lex_check.specs.Stretches.{IsStretch, stretch_tail, is_one_of, height_of};
-    ghost use Rattle.lex_check.specs.StretchLaws.{stretch_nonempty, stretch_labels, stretch_bounded};
+    ghost use Rattle.lex_check.specs.laws.Stretches.{stretch_nonempty, stretch_labels, stretch_bounded};
 
     type Node = Stretch;
 

@@ -5,7 +5,7 @@ use Rattle.lex_file.specs.declared.faults.FileFault.{FileFault}
 use Rattle.lex_file.specs.Arcs.{arc_of, is_last}
 use Rattle.lex_file.specs.Nodes.{start_at}
 use Rattle.lex_file.specs.Formats.{greatest_label}
-use Rattle.lex_file.specs.SoundNodes.{arc_facts}
+use Rattle.lex_file.specs.laws.Nodes.{arc_facts}
 use Rattle.lex_file.specs.Shapes.{IsLeast, leads_back, arc_fault, arcs_fault, body_fault}
 
 pub fine_none : (words : List ℕ) → arcs_fault words 0 ≡ None
@@ -91,7 +91,7 @@ start_second words (suc place) start = by (is_last (get_or words place 0)) refl 
 
 -- if the node before does not end after the first arc, a node begins with the second arc or with the first one
 pub start_two : (words : List ℕ) (place : ℕ) → start_at words place - 2 ≡ 0 → 0 < place → is_last (get_or words 0 0) ≡ true → 2 ≡ start_at words place
-start_two words place behind some last =
+start_two words place following some last =
     let low = start_low words place in
     elim (cases_lt (start_at words place) 2) [
       | inl one ↦ let e : start_at words place ≡ 1 = omega arith in absurd (true≢false (sym last ∙ start_first words place e some))
@@ -99,7 +99,7 @@ start_two words place behind some last =
     ]
 
 pub start_one : (words : List ℕ) (place : ℕ) → start_at words place - 2 ≡ 0 → (0 < place → is_last (get_or words 0 0) ≡ false) → 1 ≡ start_at words place
-start_one words place behind not =
+start_one words place following not =
     let low = start_low words place in
     let high = start_below words place in
     elim (cases_lt (start_at words place) 2) [
@@ -131,14 +131,14 @@ unfolding arc_fault
 low_label words place fine = (arc_facts words place fine).0.label
 
 -- a target after the last arc of a node
-pub leads_behind : (words : List ℕ) (start target : ℕ) → 2 ≤ target → target < start → start ≤ length words → is_last (get_or words (target - 2) 0) ≡ true → leads_back words start target ≡ true
-leads_behind words start zero low below inside last = absurd (omega arith)
-leads_behind words start (suc zero) low below inside last = absurd (omega arith)
-leads_behind words start (suc (suc t)) low below inside last =
+pub leads_after : (words : List ℕ) (start target : ℕ) → 2 ≤ target → target < start → start ≤ length words → is_last (get_or words (target - 2) 0) ≡ true → leads_back words start target ≡ true
+leads_after words start zero low below inside last = absurd (omega arith)
+leads_after words start (suc zero) low below inside last = absurd (omega arith)
+leads_after words start (suc (suc t)) low below inside last =
     let before : nat_lt (suc (suc t)) start ≡ true = grind arith in
     let within : nat_lt (suc t) (length words) ≡ true = grind arith in
-    let behind : suc (suc t) - 2 ≡ t = omega arith in
-    let ends : is_last (get_or words t 0) ≡ true = subst (λ (n : ℕ). is_last (get_or words n 0) ≡ true) behind last in
+    let following : suc (suc t) - 2 ≡ t = omega arith in
+    let ends : is_last (get_or words t 0) ≡ true = subst (λ (n : ℕ). is_last (get_or words n 0) ≡ true) following last in
     rw (before, within, ends) (either (suc (suc t) == 0))
   where
     either : (b : Bool) → (b || true) ≡ true
@@ -164,6 +164,6 @@ leads_to_first words start below some =
 pub in_order : (label room : ℕ) → label < 256 → room ≤ 27 → (label + room + 4294967269) % 4294967296 < room → (label ≤ greatest_label) × (27 - room ≤ label)
 in_order label room low few h = (omega arith, omega arith)
 
-pub lands : (target behind : ℕ) → target < 4294967296 → behind < 4611686018427387904 → (target + 18446744073709551614) % 18446744073709551616 < behind
+pub lands : (target following : ℕ) → target < 4294967296 → following < 4611686018427387904 → (target + 18446744073709551614) % 18446744073709551616 < following
     → (2 ≤ target) × ((target + 18446744073709551614) % 18446744073709551616 ≡ target - 2)
-lands target behind low inside h = (omega arith, omega arith)
+lands target following low inside h = (omega arith, omega arith)

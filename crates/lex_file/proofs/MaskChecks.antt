@@ -4,7 +4,7 @@ use Rattle.std.proofs.lemmas.Bool.{cases_lt, lt-ltb, le-ltb}
 use Rattle.lex_file.specs.declared.faults.FileFault.{FileFault}
 use Rattle.lex_file.specs.Masks.{has_bit, label_count, node_size}
 use Rattle.lex_file.specs.MaskShapes.{label_fault, labels_fault, node_fault, nodes_fault}
-use Rattle.lex_file.specs.SoundMasks.{node_facts}
+use Rattle.lex_file.specs.laws.Masks.{node_facts}
 
 -- ---- the labels of a node
 
@@ -64,13 +64,13 @@ label_here words place label fault lt before has here = fault_stays words place 
 -- ---- the nodes
 
 -- the number that is left does not matter if it is enough for the nodes
-same_left : (words : List ℕ) (left more place : ℕ) → length words ≤ place + left → length words ≤ place + more → nodes_fault words left place ≡ nodes_fault words more place
+same_remaining : (words : List ℕ) (remaining more place : ℕ) → length words ≤ place + remaining → length words ≤ place + more → nodes_fault words remaining place ≡ nodes_fault words more place
 unfolding nodes_fault
-same_left words zero zero place l m = refl
-same_left words zero (suc more) place l m = let past = le-ltb place (length words) (omega arith) in rw past refl
-same_left words (suc left) zero place l m = let past = le-ltb place (length words) (omega arith) in rw past refl
-same_left words (suc left) (suc more) place l m =
-    let rest = same_left words left more (place + node_size (get_or words place 0)) (omega arith) (omega arith) in
+same_remaining words zero zero place l m = refl
+same_remaining words zero (suc more) place l m = let past = le-ltb place (length words) (omega arith) in rw past refl
+same_remaining words (suc remaining) zero place l m = let past = le-ltb place (length words) (omega arith) in rw past refl
+same_remaining words (suc remaining) (suc more) place l m =
+    let rest = same_remaining words remaining more (place + node_size (get_or words place 0)) (omega arith) (omega arith) in
     rw rest refl
 
 pub node_inside : (words : List ℕ) (place : ℕ) → node_fault words place ≡ None → place + (2 + label_count (get_or words place 0)) ≤ length words
@@ -84,7 +84,7 @@ unfolding nodes_fault
 nodes_more words place lt e =
     let size : length words - place ≡ suc (length words - place - 1) = omega arith in
     let inside = lt-ltb place (length words) lt in
-    let rest = same_left words (length words - place - 1) (length words - (place + node_size (get_or words place 0))) (place + node_size (get_or words place 0)) (omega arith) (omega arith) in
+    let rest = same_remaining words (length words - place - 1) (length words - (place + node_size (get_or words place 0))) (place + node_size (get_or words place 0)) (omega arith) (omega arith) in
     rw size (rw (inside, e) rest)
 
 pub nodes_here : (words : List ℕ) (place : ℕ) (fault : FileFault) → place < length words → node_fault words place ≡ Some fault

@@ -85,21 +85,21 @@ node_10 = rw (none_set, a_set) refl
 -- ---- the faults
 
 -- past a node without a fault
-past : (words : List ℕ) (left place size : ℕ) → ltb place (length words) ≡ true → node_size (get_or words place 0) ≡ size → node_fault words place ≡ None
-    → nodes_fault words (suc left) place ≡ nodes_fault words left (place + size)
+past : (words : List ℕ) (remaining place size : ℕ) → ltb place (length words) ≡ true → node_size (get_or words place 0) ≡ size → node_fault words place ≡ None
+    → nodes_fault words (suc remaining) place ≡ nodes_fault words remaining (place + size)
 unfolding nodes_fault
-past words left place size inside is fine = rw (inside, fine, is) refl
+past words remaining place size inside is fine = rw (inside, fine, is) refl
 
 -- at a node with a fault
-stop : (words : List ℕ) (left place : ℕ) (fault : FileFault) → ltb place (length words) ≡ true → node_fault words place ≡ Some fault
-    → nodes_fault words (suc left) place ≡ Some fault
+stop : (words : List ℕ) (remaining place : ℕ) (fault : FileFault) → ltb place (length words) ≡ true → node_fault words place ≡ Some fault
+    → nodes_fault words (suc remaining) place ≡ Some fault
 unfolding nodes_fault
-stop words left place fault inside is = rw (inside, is) refl
+stop words remaining place fault inside is = rw (inside, is) refl
 
 -- at the end
-ended : (words : List ℕ) (left place : ℕ) → ltb place (length words) ≡ false → nodes_fault words (suc left) place ≡ None
+ended : (words : List ℕ) (remaining place : ℕ) → ltb place (length words) ≡ false → nodes_fault words (suc remaining) place ≡ None
 unfolding nodes_fault
-ended words left place e = rw e refl
+ended words remaining place e = rw e refl
 
 at_fine : nodes_fault at_words 13 0 ≡ None
 unfolding node_fault labels_fault label_fault

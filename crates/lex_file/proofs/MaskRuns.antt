@@ -9,7 +9,7 @@ use Rattle.std.specs.Int.{bit_at}
 use lib.Count.{count_trailing_zeros, under}
 use Rattle.lex_file.specs.Arcs.{arc_with, arc_from}
 use Rattle.lex_file.specs.Masks.{has_bit, is_marked, labels_below, label_count, mask_arc, arcs_among, mask_node, labels_within, HasRoom, IsInside}
-use Rattle.lex_file.specs.SoundMasks.{below_more, among_has, among_lacks, among_none}
+use Rattle.lex_file.specs.laws.Masks.{below_more, among_has, among_lacks, among_none}
 use Rattle.lex_file.proofs.Runs.{not_equal}
 
 -- ---- label words
@@ -180,11 +180,11 @@ unfolding count_trailing_zeros
 set_there zero n lt = absurd (omega arith)
 set_there (suc width) n lt = set_step n (n % 2) (count_trailing_zeros width (n / 2)) width refl lt (set_there width (n / 2))
 
-bit_behind : (word label i : ℕ) → bit_at (word / 2 ^ label) i ≡ bit_at word (label + i)
-bit_behind word label i = ap (λ (n : ℕ). n % 2) (div-div-eq-div-mul word (2 ^ label) (2 ^ i) ∙ ap (λ (n : ℕ). word / n) (sym (pow-add 2 label i)))
+bit_after : (word label i : ℕ) → bit_at (word / 2 ^ label) i ≡ bit_at word (label + i)
+bit_after word label i = ap (λ (n : ℕ). n % 2) (div-div-eq-div-mul word (2 ^ label) (2 ^ i) ∙ ap (λ (n : ℕ). word / n) (sym (pow-add 2 label i)))
 
 lacks_at : (word label i : ℕ) → i < count_trailing_zeros 32 (word / 2 ^ label) → has_bit word (label + i) ≡ false
-lacks_at word label i lt = let none = sym (bit_behind word label i) ∙ clear_below 32 (word / 2 ^ label) i lt in rw none refl
+lacks_at word label i lt = let none = sym (bit_after word label i) ∙ clear_below 32 (word / 2 ^ label) i lt in rw none refl
 
 -- no bit of a word lies between a place and the next bit from there on
 pub lacks_before : (word from label : ℕ) → from ≤ label → label < from + count_trailing_zeros 32 (word / 2 ^ from) → has_bit word label ≡ false
@@ -198,7 +198,7 @@ lacks_all word from label past le lt = lacks_before word from label le (omega ar
 pub has_next : (word label : ℕ) → label + count_trailing_zeros 32 (word / 2 ^ label) < 27 → has_bit word (label + count_trailing_zeros 32 (word / 2 ^ label)) ≡ true
 has_next word label lt =
     let next = count_trailing_zeros 32 (word / 2 ^ label) in
-    let one = sym (bit_behind word label next) ∙ set_there 32 (word / 2 ^ label) (omega arith) in
+    let one = sym (bit_after word label next) ∙ set_there 32 (word / 2 ^ label) (omega arith) in
     eq-eqb (word / 2 ^ (label + next) % 2) 1 one
 
 over_clear : (words : List ℕ) (place label count : ℕ) → label + count ≤ 27

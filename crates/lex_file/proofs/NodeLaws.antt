@@ -5,8 +5,8 @@ use Rattle.std.proofs.lemmas.Bool.{ltb-true, lt-ltb, false≢true, and_parts, an
 use Rattle.lex_file.specs.Arcs.{arc_of, is_last}
 use Rattle.lex_file.specs.Nodes.{run_of, node_at, begins, is_first, start_at}
 use Rattle.lex_file.specs.Shapes.{leads_back}
-use Rattle.lex_file.specs.SoundNodes.{start_of_first, leads_where, run_filled}
-use Rattle.lex_file.specs.Laws.{EndsBefore, HoldsArc}
+use Rattle.lex_file.specs.laws.Nodes.{start_of_first, leads_where, run_filled}
+use Rattle.lex_file.specs.laws.{EndsBefore, HoldsArc}
 use Rattle.lex_file.proofs.Checks.{start_last, start_same}
 
 -- a run begins with the arc at its place
@@ -20,17 +20,17 @@ run_size words place lt = rw (drop-cons words place 0) (by (is_last (get_or word
     by false = omega arith
 
 -- a run ends at the next last arc, or before it
-run_ends : (words : List ℕ) (left place last : ℕ) → place + left ≡ last → last < length words → is_last (get_or words last 0) ≡ true
-    → length (run_of (drop place words)) ≤ left + 1
+run_ends : (words : List ℕ) (remaining place last : ℕ) → place + remaining ≡ last → last < length words → is_last (get_or words last 0) ≡ true
+    → length (run_of (drop place words)) ≤ remaining + 1
 run_ends words zero place last at lt is =
     let same : place ≡ last = omega arith in
     let here : is_last (get_or words place 0) ≡ true = rw same is in
     rw (run_size words place (omega arith), here) (omega arith)
-run_ends words (suc left) place last at lt is =
-    let rest = run_ends words left (suc place) last (omega arith) lt is in
+run_ends words (suc remaining) place last at lt is =
+    let rest = run_ends words remaining (suc place) last (omega arith) lt is in
     rw (run_size words place (omega arith)) (by (is_last (get_or words place 0)) rest)
   where
-    by : (here : Bool) → length (run_of (drop (suc place) words)) ≤ left + 1 → cond here 1 (length (run_of (drop (suc place) words)) + 1) ≤ suc left + 1
+    by : (here : Bool) → length (run_of (drop (suc place) words)) ≤ remaining + 1 → cond here 1 (length (run_of (drop (suc place) words)) + 1) ≤ suc remaining + 1
     by true rest = omega arith
     by false rest = omega arith
 
@@ -81,15 +81,15 @@ start_low words (suc place) = by (is_last (get_or words place 0)) (start_low wor
     by true h = omega arith
     by false h = omega arith
 
-start_rises : (words : List ℕ) (left place : ℕ) → start_at words place ≤ start_at words (place + left)
+start_rises : (words : List ℕ) (remaining place : ℕ) → start_at words place ≤ start_at words (place + remaining)
 unfolding start_at
 start_rises words zero place = let same : place + 0 ≡ place = omega arith in rw same (omega arith)
-start_rises words (suc left) place =
-    let step : place + suc left ≡ suc (place + left) = omega arith in
-    rw step (by (is_last (get_or words (place + left) 0)) (start_rises words left place) (start_low words (place + left)))
+start_rises words (suc remaining) place =
+    let step : place + suc remaining ≡ suc (place + remaining) = omega arith in
+    rw step (by (is_last (get_or words (place + remaining) 0)) (start_rises words remaining place) (start_low words (place + remaining)))
   where
-    by : (last : Bool) → start_at words place ≤ start_at words (place + left) → start_at words (place + left) ≤ place + left + 1
-        → start_at words place ≤ cond last (place + left + 2) (start_at words (place + left))
+    by : (last : Bool) → start_at words place ≤ start_at words (place + remaining) → start_at words (place + remaining) ≤ place + remaining + 1
+        → start_at words place ≤ cond last (place + remaining + 2) (start_at words (place + remaining))
     by true h low = omega arith
     by false h low = h
 
@@ -105,23 +105,23 @@ start_is_first words (suc place) lt = by (is_last (get_or words place 0)) refl (
     by false is h = h
 
 -- an arc whose node begins no later than that of an arc before is in the run from there
-in_run : (words : List ℕ) (left place : ℕ) → start_at words (place + left) ≡ start_at words place → place + left < length words → left < length (run_of (drop place words))
+in_run : (words : List ℕ) (remaining place : ℕ) → start_at words (place + remaining) ≡ start_at words place → place + remaining < length words → remaining < length (run_of (drop place words))
 in_run words zero place same lt = run_filled words place (omega arith)
-in_run words (suc left) place same lt = by (is_last (get_or words place 0)) refl (in_run words left (suc place))
+in_run words (suc remaining) place same lt = by (is_last (get_or words place 0)) refl (in_run words remaining (suc place))
   where
     by : (last : Bool) → is_last (get_or words place 0) ≡ last
-        → (start_at words (suc place + left) ≡ start_at words (suc place) → suc place + left < length words → left < length (run_of (drop (suc place) words)))
-        → suc left < length (run_of (drop place words))
+        → (start_at words (suc place + remaining) ≡ start_at words (suc place) → suc place + remaining < length words → remaining < length (run_of (drop (suc place) words)))
+        → suc remaining < length (run_of (drop place words))
     by true is f =
         let next = start_last words place is in
-        let rises = start_rises words left (place + 1) in
+        let rises = start_rises words remaining (place + 1) in
         let low = start_low words place in
-        let e : place + 1 + left ≡ place + suc left = omega arith in
+        let e : place + 1 + remaining ≡ place + suc remaining = omega arith in
         let there = subst (λ (n : ℕ). start_at words (place + 1) ≤ start_at words n) e rises in
         absurd (omega (arith, next, there, low, same))
     by false is f =
         let next : start_at words (suc place) ≡ start_at words place = subst (λ (n : ℕ). start_at words n ≡ start_at words place) (add-one place) (start_same words place is) in
-        let e : place + suc left ≡ suc place + left = omega arith in
+        let e : place + suc remaining ≡ suc place + remaining = omega arith in
         let stays = subst (λ (n : ℕ). start_at words n ≡ start_at words place) e same in
         let rest = f (stays ∙ sym next) (omega arith) in
         rw (run_size words place (omega arith), is) (omega arith)

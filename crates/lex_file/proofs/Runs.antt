@@ -7,7 +7,7 @@ use Rattle.std.proofs.lemmas.Bool.Decides.{eqb_tells}
 use Rattle.byteorder.specs.Endian.{little_number}
 use Rattle.lex_file.specs.declared.arcs.Arc.{Arc}
 use Rattle.lex_file.specs.FileWords.{words_in}
-pub use Rattle.lex_file.specs.SoundFiles.{sizes}
+pub use Rattle.lex_file.specs.laws.Files.{sizes}
 use Rattle.lex_file.specs.Arcs.{arc_of, is_last}
 use Rattle.lex_file.specs.Nodes.{run_of, node_at}
 
@@ -63,9 +63,9 @@ unfolding run_of
 past_all words place wanted le = rw (drop_of_length-le words le) refl
 
 -- what is left of a node after an arc
-pub left_more : (words : List ℕ) (place : ℕ) (wanted : Arc → Bool) → place < length words → wanted (arc_of (get_or words place 0)) ≡ false
+pub remaining_more : (words : List ℕ) (place : ℕ) (wanted : Arc → Bool) → place < length words → wanted (arc_of (get_or words place 0)) ≡ false
     → is_last (get_or words place 0) ≡ false → find wanted (run_of (drop place words)) ≡ find wanted (node_at words (place + 2))
-left_more words place wanted lt apart last =
+remaining_more words place wanted lt apart last =
     let e : place + 2 ≡ suc (place + 1) = omega arith in
     goes_on words place wanted lt apart last ∙ ap (λ (n : ℕ). find wanted (node_at words n)) (sym e)
 

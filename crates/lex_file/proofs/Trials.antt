@@ -10,11 +10,11 @@ not_held true h = absurd (h refl)
 not_held false h = refl
 
 -- if each label below 27 was tried, no label is left
-pub none_left : (has : List ℕ → Bool) (from end : ℕ) → 27 ≤ end
+pub none_remaining : (has : List ℕ → Bool) (from end : ℕ) → 27 ≤ end
     → ((string : List ℕ) → has string ≡ true → IsTrue (list_all is_label string))
     → ((label : ℕ) → from ≤ label → label < end → (rest : List ℕ) → has (label ∷ rest) ≡ false)
     → (label : ℕ) → from ≤ label → (rest : List ℕ) → has (label ∷ rest) ≡ false
-none_left has from end high labels tried label reached rest =
+none_remaining has from end high labels tried label reached rest =
     elim (cases_lt label end) [
       | inl below ↦ tried label reached below rest
       | inr above ↦ not_held (has (label ∷ rest)) (λ held.

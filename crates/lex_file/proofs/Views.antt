@@ -13,8 +13,8 @@ use Rattle.lex_file.specs.Nodes.{begins, node_at}
 use Rattle.lex_file.specs.Masks.{is_marked, is_mask_node, labels_within, HasRoom}
 use Rattle.lex_file.specs.Shapes.{format_of, fault_of, root_of, nodes_by, names_node, arcs_by, file_node, is_file_node, arc_count_of}
 use Rattle.lex_file.specs.Files.{IsNextNode, IsRest}
-use Rattle.lex_file.specs.SoundFiles as files
-use Rattle.lex_file.specs.SoundMasks.{node_fine}
+use Rattle.lex_file.specs.laws.Files as files
+use Rattle.lex_file.specs.laws.Masks.{node_fine}
 use Rattle.lex_file.proofs.Runs as runs
 use Rattle.lex_file.proofs.MaskRuns.{few_within}
 
@@ -133,13 +133,13 @@ both_some (Some a) P R Q f h k = f a h k
 -- what is left of it has the same arcs from the label on
 pub rest_has : (file : LexFile) (n label rest : ℕ) (body : List ℕ) → file.format ≡ form.Gad1 → body ≡ drop 16 file.bytes.now → IsRest file.bytes.now n label rest
     → (above : ℕ) → label ≤ above → arc_from above (file_node file.bytes.now n) ≡ arc_from above (node_at (words_in body) rest)
-rest_has file n label rest body e is left above le =
-    left above le ∙ sym (ap (arc_from above) (nodes_are file form.Gad1 rest body e is))
+rest_has file n label rest body e is remaining above le =
+    remaining above le ∙ sym (ap (arc_from above) (nodes_are file form.Gad1 rest body e is))
 
 -- and so has what is left of that, from a higher label on
 pub rest_of_rest : (file : LexFile) (n label rest after more : ℕ) (body : List ℕ) → file.format ≡ form.Gad1 → body ≡ drop 16 file.bytes.now → IsRest file.bytes.now n label rest → label ≤ after
     → ((above : ℕ) → after < above → arc_from above (node_at (words_in body) rest) ≡ arc_from above (node_at (words_in body) more)) → IsRest file.bytes.now n (after + 1) more
-rest_of_rest file n label rest after more body e is left reached behind above le =
-    rest_has file n label rest body e is left above (omega arith)
-    ∙ behind above (omega arith)
+rest_of_rest file n label rest after more body e is remaining reached following above le =
+    rest_has file n label rest body e is remaining above (omega arith)
+    ∙ following above (omega arith)
     ∙ ap (arc_from above) (nodes_are file form.Gad1 more body e is)

@@ -6,13 +6,13 @@ use Rattle.std.specs.List.{Contains}
 use Rattle.lex_file.specs.declared.arcs.Arc.{Arc}
 use Rattle.lex_file.specs.declared.files.LexFile.{LexFile}
 use Rattle.lex_file.specs.declared.files.Node.{Node}
-use Rattle.lex_file.specs.Lexicons.{IsBehind}
+use Rattle.lex_file.specs.Lexicons.{IsAfter}
 use Rattle.lex_file.specs.Arcs.{reaches, arc_with, arc_from}
 use Rattle.lex_file.specs.Shapes.{fault_of, file_node, is_file_node}
 use Rattle.lex_file.specs.Languages.{tail_in, file_tail}
 use Rattle.lex_file.specs.Graphs as graphs
 use Rattle.lex_file.specs.Graphs.{IsSoundGraph, AreRising, arc_sound, found_passes, none_of_zero, or_cases}
-use Rattle.lex_file.specs.SoundFiles.{sound}
+use Rattle.lex_file.specs.laws.Files.{sound}
 
 -- ---- the tails of a node
 
@@ -38,8 +38,8 @@ some_tail node is_node graph (suc bound) n le lt is = by (node n) refl (graph.so
           | inr leads ↦ elim known.target [
             | inl none ↦ let positive = ltb-true 0 arc.target leads in absurd (omega (arith, none, positive))
             | inr there ↦
-                let behind = more arc.target (omega (arith, there.0)) (ltb-true 0 arc.target leads) there.1 in
-                (arc.label, behind.0 ∷ behind.1, rw has behind.2)
+                let following = more arc.target (omega (arith, there.0)) (ltb-true 0 arc.target leads) there.1 in
+                (arc.label, following.0 ∷ following.1, rw has following.2)
           ]
         ]
 
@@ -79,11 +79,11 @@ step_lives bytes shape n label arc is e dead =
       | inr leads ↦ ltb-true 0 arc.target leads
     ]
 
-pub step_behind : (file : LexFile) (node : Node) (label : ℕ) (arc : Arc) → IsTrue (is_file_node file.bytes.now node.first)
+pub step_after : (file : LexFile) (node : Node) (label : ℕ) (arc : Arc) → IsTrue (is_file_node file.bytes.now node.first)
     → arc_with label (file_node file.bytes.now node.first) ≡ Some arc → 0 < arc.target
-    → IsBehind (λ (x : Node). IsTrue (is_file_node file.bytes.now x.first)) (λ (x : Node) (string : List ℕ). file_tail file.bytes.now x.first string) (λ (x : Node). x.first)
+    → IsAfter (λ (x : Node). IsTrue (is_file_node file.bytes.now x.first)) (λ (x : Node) (string : List ℕ). file_tail file.bytes.now x.first string) (λ (x : Node). x.first)
     node label (record { first = arc.target })
-step_behind file node label arc is e some =
+step_after file node label arc is e some =
     let graph = (sound file.bytes.now file.shape).graph in
     elim (arc_sound (file_node file.bytes.now) (is_file_node file.bytes.now) graph node.first label arc is e).target [
       | inl none ↦ absurd (omega (arith, none, some))

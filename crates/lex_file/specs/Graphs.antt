@@ -115,9 +115,9 @@ bounded_in node is_node graph zero (label ∷ []) is t = absurd (false≢true (s
 bounded_in node is_node graph (suc place) (label ∷ []) is t = omega arith
 bounded_in node is_node graph n (label ∷ after ∷ rest) is t =
     let found = arc_of_tail node n label (after ∷ rest) graph.none t in
-    let behind = rw found.1 at t in
-    let there = target_of_tail node is_node graph.none n found.0 (after ∷ rest) (arc_sound node is_node graph n label found.0 is found.1) behind in
-    let more = bounded_in node is_node graph found.0.target (after ∷ rest) there.1 behind in
+    let following = rw found.1 at t in
+    let there = target_of_tail node is_node graph.none n found.0 (after ∷ rest) (arc_sound node is_node graph n label found.0 is found.1) following in
+    let more = bounded_in node is_node graph found.0.target (after ∷ rest) there.1 following in
     omega (arith, there.0, more)
 
 -- the labels of a tail of a node are at most 26
@@ -134,7 +134,7 @@ labels_in node is_node graph n (label ∷ after ∷ rest) is t =
     let found = arc_of_tail node n label (after ∷ rest) graph.none t in
     let sound = arc_sound node is_node graph n label found.0 is found.1 in
     let same = arc_label label (node n) found.0 found.1 in
-    let behind = rw found.1 at t in
-    let there = target_of_tail node is_node graph.none n found.0 (after ∷ rest) sound behind in
+    let following = rw found.1 at t in
+    let there = target_of_tail node is_node graph.none n found.0 (after ∷ rest) sound following in
     and_from (ltb label 27) (list_all is_label (after ∷ rest)) (lt-ltb label 27 (omega (arith, same, sound.label)))
-    (labels_in node is_node graph found.0.target (after ∷ rest) there.1 behind)
+    (labels_in node is_node graph found.0.target (after ∷ rest) there.1 following)

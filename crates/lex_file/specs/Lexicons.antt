@@ -15,7 +15,7 @@ NoLonger tail node label = (after : ℕ) (rest : List ℕ) → tail node (label 
 
 -- The node after a label: its tails are those of the longer tails that begin with the label, without it; there is at least one; and
 -- its height is less.
-pub record IsBehind {N : Type 0} (is_node : N → Type 0) (tail : N → List ℕ → Bool) (height : N → ℕ) (before : N) (label : ℕ) (next : N) : Type 0 where
+pub record IsAfter {N : Type 0} (is_node : N → Type 0) (tail : N → List ℕ → Bool) (height : N → ℕ) (before : N) (label : ℕ) (next : N) : Type 0 where
   pub node : is_node next
   pub tails : (after : ℕ) (rest : List ℕ) → tail before (label ∷ after ∷ rest) ≡ tail next (after ∷ rest)
   pub some : (after : ℕ) × (rest : List ℕ) × (tail next (after ∷ rest) ≡ true)
@@ -24,8 +24,8 @@ pub record IsBehind {N : Type 0} (is_node : N → Type 0) (tail : N → List ℕ
 -- what a step leads to: a node after the label, exactly when some longer tail begins with it
 abbrev pub NextGives : {N : Type 0} → (N → Type 0) → (N → List ℕ → Bool) → (N → ℕ) → N → ℕ → Option N → Type 0
 NextGives is_node tail height node label None = NoLonger tail node label
-NextGives is_node tail height node label (Some next) = IsBehind is_node tail height node label next
+NextGives is_node tail height node label (Some next) = IsAfter is_node tail height node label next
 
 -- Where a walk over the labels of a node from one on may continue: the node itself, or what is left of it.
-abbrev pub IsLeft : {N : Type 0} → (N → ℕ → N → Type 0) → N → ℕ → N → Type 0
-IsLeft is_rest node from rest = (rest ≡ node) ⊎ is_rest node from rest
+abbrev pub IsRemaining : {N : Type 0} → (N → ℕ → N → Type 0) → N → ℕ → N → Type 0
+IsRemaining is_rest node from rest = (rest ≡ node) ⊎ is_rest node from rest

@@ -10,8 +10,5 @@ pub mod Languages
 pub mod Lexicons
 pub mod Walking
 pub mod Graphs
-pub mod SoundMasks
-pub mod SoundNodes
-pub mod SoundFiles
+pub mod laws
 pub mod Files
-pub mod Laws

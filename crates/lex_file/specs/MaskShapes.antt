@@ -46,10 +46,10 @@ node_fault words place =
     ∷ labels_fault words place 27
     ∷ [])
 
--- The first fault of the nodes from a place on, each after the words of the one before. `left` is at least the number of nodes.
+-- The first fault of the nodes from a place on, each after the words of the one before. `remaining` is at least the number of nodes.
 unfoldable pub nodes_fault : List ℕ → ℕ → ℕ → Option FileFault
 nodes_fault words zero place = None
-nodes_fault words (suc left) place =
+nodes_fault words (suc remaining) place =
     if nat_lt place (length words)
-    then option_or (node_fault words place) (nodes_fault words left (place + node_size (slice_index words place)))
+    then option_or (node_fault words place) (nodes_fault words remaining (place + node_size (slice_index words place)))
     else None

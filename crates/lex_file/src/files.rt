@@ -238,7 +238,7 @@ impl<'a> PathLex for LexFile<'a> {
     ghost use Rattle.lex_file.specs.Files.{bytes_of, number_of, IsRest};
     ghost use Rattle.lex_file.specs.Shapes.{root_of, is_file_node};
     ghost use Rattle.lex_file.specs.Languages.{file_tail, language_of};
-    ghost use Rattle.lex_file.specs.SoundFiles.{file_nonempty, file_labels, file_bounded};
+    ghost use Rattle.lex_file.specs.laws.Files.{file_nonempty, file_labels, file_bounded};
 
     type Node = Node;
 

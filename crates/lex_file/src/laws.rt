@@ -1,5 +1,5 @@
 //! Laws of the definitions that the contracts of files cite. The functions do nothing: their contracts are the laws.
-ghost use Rattle.lex_file.specs.Laws.{LanguageIsSpelt, TailsAreSpelt, NodesHoldArcs, TargetsEndBefore};
+ghost use Rattle.lex_file.specs.laws.{LanguageIsSpelt, TailsAreSpelt, NodesHoldArcs, TargetsEndBefore};
 
 /// The language of a compiled lexicon is the set of the strings of labels for which there are arcs with these labels, the first in
 /// the root's node, each next one in the node that the arc before targets, the last accepting. The same holds for the tails of each

@@ -1,7 +1,7 @@
 //! Lexicons that are walked label by label.
 ghost use Rattle.std.specs.Prelude.{◌≡◌, ◌<◌, ◌≤◌, ◌+◌, ℕ, List, [], ◌∷◌, Bool, true, false, IfSome, IfNone, IsSome, IsTrue, length};
 ghost use Rattle.std.specs.List.{list_all};
-ghost use Rattle.lex_file.specs.Lexicons.{is_label, NoTail, NextGives, IsLeft};
+ghost use Rattle.lex_file.specs.Lexicons.{is_label, NoTail, NextGives, IsRemaining};
 
 /// The number of labels: the mark and the letters A to Z.
 pub const LABELS: u8 = 27;
@@ -106,14 +106,14 @@ pub trait PathLex {
         rest: Self::Node,
     ) -> Option<Onward<Self::Node, Self::Node>>
         requires node { is_node self.now node }
-        requires rest { IsLeft (is_rest self.now) node from rest }
+        requires rest { IsRemaining (is_rest self.now) node from rest }
         ensures none { IfNone result ((label : ℕ) → from ≤ label → NoTail (tail self.now) node label) }
         ensures reached { IfSome result (λ on. from ≤ on.branch.label) }
         ensures passed { IfSome result (λ on. (label : ℕ) → from ≤ label → label < on.branch.label → NoTail (tail self.now) node label) }
         ensures accepts { IfSome result (λ on. on.branch.step.accepts ≡ tail self.now node (on.branch.label ∷ [])) }
         ensures next { IfSome result (λ on. NextGives (is_node self.now) (tail self.now) (height self.now) node on.branch.label on.branch.step.next) }
         ensures alive { IfSome result (λ on. on.branch.step.accepts ≡ false → IsSome on.branch.step.next) }
-        ensures rest { IfSome result (λ on. IsLeft (is_rest self.now) node (on.branch.label + 1) on.rest) }
+        ensures rest { IfSome result (λ on. IsRemaining (is_rest self.now) node (on.branch.label + 1) on.rest) }
     {
         let Some(branch) = self.branch_from(node, from) else {
             return None;

@@ -76,15 +76,15 @@ fn check_arcs(arcs: &[u8]) -> Result<(), FileFault>
     ensures { Refuses result (body_fault (words_in arcs.now)) }
 {
     let count = word_count(arcs);
-    let mut behind = 0;
+    let mut following = 0;
     let mut room = LABELS;
     for place in 0..count {
-        if !is_fine(arcs, place, behind, room) {
-            check_arc(arcs, place, start_of(arcs, place, behind), LABELS - room)?;
+        if !is_fine(arcs, place, following, room) {
+            check_arc(arcs, place, start_of(arcs, place, following), LABELS - room)?;
         }
         let word = word_at(arcs, place);
         if is_last(word) {
-            behind = place;
+            following = place;
             room = LABELS;
         } else {
             room = MAX_LABEL - Arc::of_word(word).label as u32;
@@ -96,13 +96,13 @@ fn check_arcs(arcs: &[u8]) -> Result<(), FileFault>
     Ok(())
 }
 
-/// Whether the arc at a place has no fault. The node before its own ends at the place `behind`, 0 if there is none, and the `room`
+/// Whether the arc at a place has no fault. The node before its own ends at the place `following`, 0 if there is none, and the `room`
 /// greatest labels are in order there. A file may have millions of arcs, so this takes few jumps; [`check_arc`] names the fault if
 /// there is one.
 #[inline(always)]
-fn is_fine(arcs: &[u8], place: usize, behind: usize, room: u32) -> bool
+fn is_fine(arcs: &[u8], place: usize, following: usize, room: u32) -> bool
     requires inside { place < length (words_in arcs.now) }
-    requires node { behind ≡ start_at (words_in arcs.now) place - 2 }
+    requires node { following ≡ start_at (words_in arcs.now) place - 2 }
     requires order { IsLeast (words_in arcs.now) place (27 - room) }
     requires few { room ≤ 27 }
     ensures { result ≡ true → arc_fault (words_in arcs.now) place ≡ None }
@@ -113,26 +113,26 @@ fn is_fine(arcs: &[u8], place: usize, behind: usize, room: u32) -> bool
         return false;
     }
     let end = (arc.target as usize).wrapping_sub(2);
-    if end < behind {
+    if end < following {
         return is_last(word_at(arcs, end));
     }
     match arc.target {
         0 => arc.accepts,
-        1 => behind > 0,
+        1 => following > 0,
         _ => false,
     }
 }
 
-/// The number of the first arc of the node that has the arc at a place. The node before it ends at the place `behind`, 0 if there is none.
+/// The number of the first arc of the node that has the arc at a place. The node before it ends at the place `following`, 0 if there is none.
 #[cold]
 #[inline(never)]
-fn start_of(arcs: &[u8], place: usize, behind: usize) -> usize
+fn start_of(arcs: &[u8], place: usize, following: usize) -> usize
     requires inside { place < length (words_in arcs.now) }
-    requires node { behind ≡ start_at (words_in arcs.now) place - 2 }
+    requires node { following ≡ start_at (words_in arcs.now) place - 2 }
     ensures { result ≡ start_at (words_in arcs.now) place }
 {
-    if behind > 0 {
-        return behind + 2;
+    if following > 0 {
+        return following + 2;
     }
     if place > 0 && is_last(word_at(arcs, 0)) {
         2

@@ -6,7 +6,7 @@ use Rattle.lex_list.specs.declared.faults.ListWhy.TheVariants as why
 use Rattle.lex_list.specs.declared.faults.ListFault.{ListFault}
 use Rattle.lex_list.specs.Lines.{lines_in}
 use Rattle.lex_list.specs.Words.{most_words, is_listed}
-use Rattle.lex_list.specs.RotatedPaths.{label_of, mark, path_of, is_path_behind, is_path}
+use Rattle.lex_list.specs.RotatedPaths.{label_of, mark, path_of, is_path_after, is_path}
 use Rattle.lex_list.specs.Lists.{with_line, words_in, spelling_fault, fault_of, first_bad_line, at_line, list_in, list_of}
 
 abbrev fails_as : ℕ → ListWhy → Result (List (List ℕ)) ListFault
@@ -36,9 +36,9 @@ hyphen : list_of (codes "A-B") ≡ fails_as 1 why.BadLetter
 unfolding list_of list_in first_bad_line words_in fault_of spelling_fault with_line most_words lines_in
 hyphen = refl
 
-blank_behind : list_of (codes "AT ") ≡ fails_as 1 why.BadLetter
+blank_after : list_of (codes "AT ") ≡ fails_as 1 why.BadLetter
 unfolding list_of list_in first_bad_line words_in fault_of spelling_fault with_line most_words lines_in
-blank_behind = refl
+blank_after = refl
 
 sixteen_letters : list_of (lf ++ cr_lf ++ codes "ABCDEFGHIJKLMNOP") ≡ fails_as 3 why.BadLength
 unfolding list_of list_in first_bad_line words_in fault_of spelling_fault with_line most_words lines_in
@@ -91,7 +91,7 @@ labels text = map (λ byte. if byte == 43 then mark else label_of byte) text
 
 paths_of_at : map (is_path (codes "AT" ∷ [])) (map labels (codes "A+T" ∷ codes "TA" ∷ codes "" ∷ codes "AT" ∷ codes "TA+" ∷ codes "+AT" ∷ codes "A+T+" ∷ []))
     ≡ true ∷ true ∷ false ∷ false ∷ false ∷ false ∷ false ∷ []
-unfolding is_path_behind is_listed
+unfolding is_path_after is_listed
 paths_of_at = refl
 
 -- the four paths of a word of four letters
@@ -101,5 +101,5 @@ splits = refl
 
 paths_of_care : map (is_path (codes "CARE" ∷ codes "AT" ∷ [])) (map labels (codes "C+ARE" ∷ codes "AC+RE" ∷ codes "RAC+E" ∷ codes "ERAC" ∷ codes "TA" ∷ codes "CA+RE" ∷ codes "CARE" ∷ []))
     ≡ true ∷ true ∷ true ∷ true ∷ true ∷ false ∷ false ∷ []
-unfolding is_path_behind is_listed
+unfolding is_path_after is_listed
 paths_of_care = refl

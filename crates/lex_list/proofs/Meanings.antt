@@ -20,7 +20,7 @@ use Rattle.lex_list.specs.declared.faults.ListFault.{ListFault}
 use Rattle.lex_list.specs.Faults.{no_memory}
 use Rattle.lex_list.specs.Lines.{lines_of}
 use Rattle.lex_list.specs.Words.{most_words, has_word_length, is_word, word_order, is_listed, IsWordList}
-use Rattle.lex_list.specs.Lists.{list_of, spelling_fault, capitals, with_line, words_in, fault_of, fault_behind, first_bad_line, at_line, list_in, Holds, HoldsWordsOf, IsFirstFault, IsFaultOf, most_list_bytes}
+use Rattle.lex_list.specs.Lists.{list_of, spelling_fault, capitals, with_line, words_in, fault_of, fault_after, first_bad_line, at_line, list_in, Holds, HoldsWordsOf, IsFirstFault, IsFaultOf, most_list_bytes}
 use Rattle.lex_list.proofs.Orders.{ordered_more, all_more, any_more, listed_from_member, member_from_listed}
 use Rattle.lex_list.proofs.Steps.{words_in_more}
 
@@ -130,7 +130,7 @@ list_holds lines list e =
 -- the fault of lines is that of the first with one
 pub list_first : (lines : List (List ℕ)) (fault : ListFault) → list_in lines ≡ Err fault → IsFirstFault lines fault
 unfolding list_in first_bad_line
-list_first lines fault e = first_bad-is at_line fault_behind lines fault (or_fault_some (first_bad_line [] lines) (words_in lines) fault e)
+list_first lines fault e = first_bad-is at_line fault_after lines fault (or_fault_some (first_bad_line [] lines) (words_in lines) fault e)
 
 -- the fault of a text that is not too long
 pub text_fault : (text : List ℕ) (lines : List (List ℕ)) (fault : ListFault) → length text ≤ most_list_bytes → lines ≡ lines_of text

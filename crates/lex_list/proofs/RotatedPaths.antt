@@ -7,7 +7,7 @@ use Rattle.std.proofs.lemmas.Bool.{and_parts, and_from, ltb-true, lt-ltb, leb-tr
 use Rattle.std.proofs.lemmas.List.{reverse-append, reverse-reverse}
 use Rattle.std.proofs.lemmas.List.Folds.{list_all-append}
 use Rattle.std.proofs.lemmas.List.Sums.{AllPass-from_list_all}
-use Rattle.lex_list.specs.RotatedPaths.{label_of, letter_of, marked, IsPath, is_path_behind, is_path, StandsFor}
+use Rattle.lex_list.specs.RotatedPaths.{label_of, letter_of, marked, IsPath, is_path_after, is_path, StandsFor}
 use Rattle.lex_list.specs.Words.{is_listed, is_word, has_word_length, has_capitals_alone, IsWordList}
 use Rattle.lex_list.proofs.Orders.{listed_from_member, member_from_listed}
 
@@ -42,7 +42,7 @@ letter_again (letter ∷ letters) all =
 -- ---- what the test says, after a front
 
 -- what is read after a front: more letters of the front, in the order of reading, and the back
-record Behind (words : List (List ℕ)) (front string : List ℕ) : Type 0 where
+record After (words : List (List ℕ)) (front string : List ℕ) : Type 0 where
   more : List ℕ
   back : List ℕ
   listed : Contains words (reverse more ++ front ++ back)
@@ -53,8 +53,8 @@ record Behind (words : List (List ℕ)) (front string : List ℕ) : Type 0 where
 turned : (letter : ℕ) (more front : List ℕ) → reverse (letter ∷ more) ++ front ≡ reverse more ++ (letter ∷ front)
 turned letter more front = ap (λ (x : List ℕ). x ++ front) (reverse-append (letter ∷ []) more) ∙ append_assoc (reverse more) (letter ∷ []) front
 
-behind_more : (words : List (List ℕ)) (front rest : List ℕ) (label : ℕ) → Behind words (letter_of label ∷ front) rest → Behind words front (label ∷ rest)
-behind_more words front rest label b =
+after_more : (words : List (List ℕ)) (front rest : List ℕ) (label : ℕ) → After words (letter_of label ∷ front) rest → After words front (label ∷ rest)
+after_more words front rest label b =
     let again : label + 64 - 64 ≡ label = omega arith in
     record {
       more = letter_of label ∷ b.more;
@@ -65,15 +65,15 @@ behind_more words front rest label b =
     }
 
 past_mark : (words : List (List ℕ)) (front rest : List ℕ) (label : ℕ) → label ≡ 0 → 0 < length front → 0 < length rest
-    → Contains words (front ++ map letter_of rest) → Behind words front (label ∷ rest)
+    → Contains words (front ++ map letter_of rest) → After words front (label ∷ rest)
 past_mark words front [] label zero some filled listed = absurd (omega arith)
 past_mark words front (first ∷ rest) label zero some filled listed =
     let again = label_again (first ∷ rest) in
     record { more = []; back = map letter_of (first ∷ rest); listed = listed; some = some; read = cc }
 
-behind_from_test : (words : List (List ℕ)) (front string : List ℕ) → is_path_behind words front string ≡ true → Behind words front string
-unfolding is_path_behind
-behind_from_test words front [] t =
+after_from_test : (words : List (List ℕ)) (front string : List ℕ) → is_path_after words front string ≡ true → After words front string
+unfolding is_path_after
+after_from_test words front [] t =
     let parts = and_parts (ltb 0 (length front)) (is_listed words front) t in
     record {
       more = [];
@@ -82,23 +82,23 @@ behind_from_test words front [] t =
       some = ltb-true 0 (length front) parts.0;
       read = refl;
     }
-behind_from_test words front (label ∷ rest) t = by (eqb label 0) refl t (behind_from_test words (letter_of label ∷ front) rest)
+after_from_test words front (label ∷ rest) t = by (eqb label 0) refl t (after_from_test words (letter_of label ∷ front) rest)
   where
     by : (is_mark : Bool) → eqb label 0 ≡ is_mark
-        → cond is_mark (ltb 0 (length front) && ltb 0 (length rest) && is_listed words (front ++ map letter_of rest)) (is_path_behind words (letter_of label ∷ front) rest) ≡ true
-        → (is_path_behind words (letter_of label ∷ front) rest ≡ true → Behind words (letter_of label ∷ front) rest) → Behind words front (label ∷ rest)
+        → cond is_mark (ltb 0 (length front) && ltb 0 (length rest) && is_listed words (front ++ map letter_of rest)) (is_path_after words (letter_of label ∷ front) rest) ≡ true
+        → (is_path_after words (letter_of label ∷ front) rest ≡ true → After words (letter_of label ∷ front) rest) → After words front (label ∷ rest)
     by true is h f =
         let parts = and_parts (ltb 0 (length front) && ltb 0 (length rest)) (is_listed words (front ++ map letter_of rest)) h in
         let sizes = and_parts (ltb 0 (length front)) (ltb 0 (length rest)) parts.0 in
         past_mark words front rest label (eqb-true label 0 is) (ltb-true 0 (length front) sizes.0) (ltb-true 0 (length rest) sizes.1)
         (member_from_listed words (front ++ map letter_of rest) parts.1)
-    by false is h f = behind_more words front rest label (f h)
+    by false is h f = after_more words front rest label (f h)
 
 -- ---- the converse
 
 test_from_split : (words : List (List ℕ)) (front more back : List ℕ) → list_all is_ascii_uppercase (reverse more ++ front ++ back) ≡ true
-    → Contains words (reverse more ++ front ++ back) → 0 < length (reverse more ++ front) → is_path_behind words front (map label_of more ++ marked back) ≡ true
-unfolding is_path_behind
+    → Contains words (reverse more ++ front ++ back) → 0 < length (reverse more ++ front) → is_path_after words front (map label_of more ++ marked back) ≡ true
+unfolding is_path_after
 test_from_split words front [] [] capitals listed some =
     let there = listed_from_member words front (rw append-nil at listed) in
     rw (lt-ltb 0 (length front) some, there) refl
@@ -125,8 +125,8 @@ test_from_split words front (letter ∷ more) back capitals listed some =
 
 -- ---- the law
 
-path_from_behind : (words : List (List ℕ)) (string : List ℕ) → Behind words [] string → IsPath words string
-path_from_behind words string b =
+path_from_after : (words : List (List ℕ)) (string : List ℕ) → After words [] string → IsPath words string
+path_from_after words string b =
     let same : reverse b.more ++ [] ≡ reverse b.more = append-nil (reverse b.more) in
     record {
       front = reverse b.more;
@@ -149,7 +149,7 @@ test_from_path words string capitals p =
 
 pub tested : (words : List (List ℕ)) → IsTrue (has_capitals_alone words) → (string : List ℕ) → IsTrue (is_path words string) ↔ IsPath words string
 tested words capitals string = (
-  (λ t. path_from_behind words string (behind_from_test words [] string t)),
+  (λ t. path_from_after words string (after_from_test words [] string t)),
   (λ p. test_from_path words string capitals p),
 )
 

@@ -22,18 +22,18 @@ all_at P (x ∷ xs) zero word a at = let same : x ≡ word = cc in subst P same 
 all_at P (x ∷ xs) (suc i) word a at = all_at P xs i word a.1 at
 
 -- a word after the last of a row is after all of it
-put_behind : (row : List (List ℕ)) (last word : List ℕ) → IsStrictlySortedBy word_order row → slice_get row (length row - 1) ≡ Some last
+put_after : (row : List (List ℕ)) (last word : List ℕ) → IsStrictlySortedBy word_order row → slice_get row (length row - 1) ≡ Some last
     → word_order last word ≡ Less → insert_key word_order row word ≡ row ++ word ∷ []
 unfolding IsStrictlySortedBy
-put_behind [] last word s at less = refl
-put_behind (x ∷ []) last word s at less =
+put_after [] last word s at less = refl
+put_after (x ∷ []) last word s at less =
     let same : x ≡ last = cc in
     let after : word_order word x ≡ Greater = greater x word (ap (λ y. word_order y word) same ∙ less) in
     rw after refl
-put_behind (x ∷ y ∷ ys) last word s at less =
+put_after (x ∷ y ∷ ys) last word s at less =
     let e : length (x ∷ y ∷ ys) - 1 ≡ suc (length (y ∷ ys) - 1) = omega arith in
     let here : slice_get (y ∷ ys) (length (y ∷ ys) - 1) ≡ Some last = rw e at at in
-    let more = put_behind (y ∷ ys) last word s.1 here less in
+    let more = put_after (y ∷ ys) last word s.1 here less in
     let before : word_order x last ≡ Less = all_at (λ z. word_order x z ≡ Less) (y ∷ ys) (length (y ∷ ys) - 1) last s.0 here in
     let after : word_order word x ≡ Greater = greater x word (nat_list_cmp_total.trans x last word before less) in
     rw after (ap (λ rest. x ∷ rest) more)
@@ -44,10 +44,10 @@ less_from Equal e = absurd cc
 less_from Greater e = absurd cc
 
 -- whether a word is after the last
-pub told_behind : (row : List (List ℕ)) (last word : List ℕ) (r : Bool) → IsStrictlySortedBy word_order row → Some last ≡ slice_get row (length row - 1)
+pub reported_after : (row : List (List ℕ)) (last word : List ℕ) (r : Bool) → IsStrictlySortedBy word_order row → Some last ≡ slice_get row (length row - 1)
     → r ≡ is_lt (word_order last word) → OnTrue r (insert_key word_order row word ≡ row ++ word ∷ [])
-told_behind row last word r s at is =
-    OnTrue_from r (insert_key word_order row word ≡ row ++ word ∷ []) (λ e. put_behind row last word s (sym at) (less_from (word_order last word) (sym is ∙ e)))
+reported_after row last word r s at is =
+    OnTrue_from r (insert_key word_order row word ≡ row ++ word ∷ []) (λ e. put_after row last word s (sym at) (less_from (word_order last word) (sym is ∙ e)))
 
 -- ---- the last word moved
 
@@ -74,13 +74,13 @@ moved_one whole row rest keys new word s last all put =
     let first = put_first rest word keys (subst (IsStrictlySortedBy word_order) (sym joined) s) in
     ap (λ k. rest ++ k) (put ∙ first) ∙ joined
 
-pub left_sorted : (row rest : List (List ℕ)) (word : List ℕ) → IsStrictlySortedBy word_order row → row ≡ rest ++ word ∷ [] → IsStrictlySortedBy word_order rest
-left_sorted row rest word s last = sorted_front rest (word ∷ []) (subst (IsStrictlySortedBy word_order) last s)
+pub remaining_sorted : (row rest : List (List ℕ)) (word : List ℕ) → IsStrictlySortedBy word_order row → row ≡ rest ++ word ∷ [] → IsStrictlySortedBy word_order rest
+remaining_sorted row rest word s last = sorted_front rest (word ∷ []) (subst (IsStrictlySortedBy word_order) last s)
 
 -- ---- one more word in a row
 
 pub put_last : (row seen new : List (List ℕ)) (word : List ℕ) → IsStrictlySortedBy word_order row → seen ≡ row → insert_key word_order seen word ≡ seen ++ word ∷ []
     → new ≡ row ++ word ∷ [] → IsStrictlySortedBy word_order new
-put_last row seen new word s same behind put =
-    let there : insert_key word_order row word ≡ row ++ word ∷ [] = rw same at behind in
+put_last row seen new word s same following put =
+    let there : insert_key word_order row word ≡ row ++ word ∷ [] = rw same at following in
     subst (IsStrictlySortedBy word_order) (there ∙ sym put) (ordered_more row word s)

@@ -4,7 +4,7 @@ use Rattle.std.specs.Prelude.{reverse}
 use Rattle.std.proofs.lemmas.Bool.{eqb-true, lt-ltb}
 use Rattle.std.proofs.lemmas.List.{reverse-append, map-append}
 use Rattle.std.proofs.lemmas.List.Elements.{All-head, All-tail}
-use Rattle.lex_list.specs.RotatedPaths.{letter_of, behind_mark, is_path_behind, StandsFor}
+use Rattle.lex_list.specs.RotatedPaths.{letter_of, after_mark, is_path_after, StandsFor}
 use Rattle.lex_list.specs.Words.{is_listed}
 
 no_mark : (label : ℕ) → 0 < label → eqb label 0 ≡ false
@@ -22,8 +22,8 @@ turned label labels front =
 
 -- the test, after a front
 read : (words : List (List ℕ)) (front labels rest : List ℕ) → 0 < length front + length labels → All (λ label. 0 < label) labels
-    → is_path_behind words front (labels ++ behind_mark rest) ≡ is_listed words (map letter_of (reverse labels) ++ front ++ map letter_of rest)
-unfolding is_path_behind
+    → is_path_after words front (labels ++ after_mark rest) ≡ is_listed words (map letter_of (reverse labels) ++ front ++ map letter_of rest)
+unfolding is_path_after
 read words front [] [] some above =
     let here : ltb 0 (length front) ≡ true = lt-ltb 0 (length front) (omega arith) in
     rw (here, append-nil) refl
@@ -38,8 +38,8 @@ read words front (label ∷ labels) rest some above =
 
 -- the law
 pub split : (words : List (List ℕ)) (language : List ℕ → Bool) → StandsFor language words → (labels rest : List ℕ) → 0 < length labels → All (λ label. 0 < label) labels
-    → language (labels ++ behind_mark rest) ≡ is_listed words (map letter_of (reverse labels ++ rest))
+    → language (labels ++ after_mark rest) ≡ is_listed words (map letter_of (reverse labels ++ rest))
 split words language same labels rest some above =
-    same (labels ++ behind_mark rest) ∙ read words [] labels rest (omega arith) above
+    same (labels ++ after_mark rest) ∙ read words [] labels rest (omega arith) above
     ∙ ap (λ (x : List ℕ). is_listed words (x ++ map letter_of rest)) (append-nil (map letter_of (reverse labels)))
     ∙ ap (is_listed words) (sym (map-append letter_of (reverse labels) rest))

@@ -5,7 +5,7 @@ use Rattle.std.proofs.lemmas.Bool.{lt-leb, le-leb}
 use Rattle.std.proofs.lemmas.List.{length-append, length_push}
 use Rattle.std.proofs.lemmas.List.Sums.{fold-append}
 use Rattle.first_faults.proofs.CheckLaws.{or_fault_none, or_fault_some}
-use Rattle.first_faults.proofs.FirstBadLaws.{none_left}
+use Rattle.first_faults.proofs.FirstBadLaws.{none_remaining}
 use Rattle.lex_list.specs.declared.faults.ListWhy.{ListWhy}
 use Rattle.lex_list.specs.declared.faults.ListFault.{ListFault}
 use Rattle.lex_list.specs.Faults.{no_memory}
@@ -13,16 +13,16 @@ use Rattle.std.specs.BTreeSet.{insert_key}
 use Rattle.std.proofs.Common.{leb}
 use Rattle.lex_list.specs.declared.faults.ListWhy.TheVariants as why
 use Rattle.lex_list.specs.Words.{word_order, most_words}
-use Rattle.lex_list.specs.Lists.{with_line, words_in, spelling_fault, fault_of, fault_behind, first_bad_line, at_line, list_in, line_in, capitals}
+use Rattle.lex_list.specs.Lists.{with_line, words_in, spelling_fault, fault_of, fault_after, first_bad_line, at_line, list_in, line_in, capitals}
 
 -- how far a reading has come: these are the words of the `line` lines so far, and what is wrong with the whole text is wrong with
 -- what follows
-pub record Progress (lines words : List (List ℕ)) (line : ℕ) (behind : List (List ℕ)) : Type 0 where
+pub record Progress (lines words : List (List ℕ)) (line : ℕ) (following : List (List ℕ)) : Type 0 where
   pub before : List (List ℕ)
   pub count : length before ≡ line
   pub there : words ≡ words_in before
-  pub same : first_bad_line before behind ≡ first_bad_line [] lines
-  pub whole : before ++ behind ≡ lines
+  pub same : first_bad_line before following ≡ first_bad_line [] lines
+  pub whole : before ++ following ≡ lines
 
 -- no line yet
 pub progress_none : (lines : List (List ℕ)) → Progress lines [] 0 lines
@@ -37,10 +37,10 @@ unfolding words_in
 words_in_more before line = fold-append with_line [] before (line ∷ [])
 
 -- one more line
-pub progress_more : (lines words next : List (List ℕ)) (n : ℕ) (behind : List (List ℕ)) (text : List ℕ) (others : List (List ℕ))
-    → behind ≡ text ∷ others → line_in words (n + 1) text ≡ Ok next → Progress lines words n behind → Progress lines next (n + 1) others
+pub progress_more : (lines words next : List (List ℕ)) (n : ℕ) (following : List (List ℕ)) (text : List ℕ) (others : List (List ℕ))
+    → following ≡ text ∷ others → line_in words (n + 1) text ≡ Ok next → Progress lines words n following → Progress lines next (n + 1) others
 unfolding first_bad_line
-progress_more lines words next n behind text others cut step p =
+progress_more lines words next n following text others cut step p =
     let fine = or_fault_none (at_line (n + 1)) (fault_of words text) (with_line words text) next step in
     let none : fault_of (words_in p.before) text ≡ None = rw p.there at fine.0 in
     let here : first_bad_line p.before (text ∷ others) ≡ first_bad_line (p.before ++ text ∷ []) others = rw none refl in
@@ -53,12 +53,12 @@ progress_more lines words next n behind text others cut step p =
     }
 
 -- a line with a fault, or no memory for it
-pub progress_fails : (lines words : List (List ℕ)) (n : ℕ) (behind : List (List ℕ)) (text : List ℕ) (others : List (List ℕ)) (fault : ListFault)
-    → behind ≡ text ∷ others → (fault ≡ no_memory) ⊎ (line_in words (n + 1) text ≡ Err fault)
-    → Progress lines words n behind → (fault ≡ no_memory) ⊎ (list_in lines ≡ Err fault)
+pub progress_fails : (lines words : List (List ℕ)) (n : ℕ) (following : List (List ℕ)) (text : List ℕ) (others : List (List ℕ)) (fault : ListFault)
+    → following ≡ text ∷ others → (fault ≡ no_memory) ⊎ (line_in words (n + 1) text ≡ Err fault)
+    → Progress lines words n following → (fault ≡ no_memory) ⊎ (list_in lines ≡ Err fault)
 unfolding first_bad_line list_in
-progress_fails lines words n behind text others fault cut (inl memory) p = inl memory
-progress_fails lines words n behind text others fault cut (inr step) p =
+progress_fails lines words n following text others fault cut (inl memory) p = inl memory
+progress_fails lines words n following text others fault cut (inr step) p =
     let found = or_fault_some (option_map (at_line (n + 1)) (fault_of words text)) (with_line words text) fault step in
     let here : option_map (at_line (length p.before + 1)) (fault_of (words_in p.before) text) ≡ Some fault = rw (p.count, ← p.there) found in
     let first : first_bad_line p.before (text ∷ others) ≡ Some fault = rw here refl in
@@ -66,15 +66,15 @@ progress_fails lines words n behind text others fault cut (inr step) p =
     inr (rw whole refl)
 
 -- no more lines are read than there are
-pub progress_room : (lines words : List (List ℕ)) (n : ℕ) (behind : List (List ℕ)) (text : List ℕ) (others : List (List ℕ))
-    → behind ≡ text ∷ others → Progress lines words n behind → n < length lines
-progress_room lines words n behind text others cut p = omega (arith, p.count, ap length cut, ap length p.whole, length-append p.before behind)
+pub progress_room : (lines words : List (List ℕ)) (n : ℕ) (following : List (List ℕ)) (text : List ℕ) (others : List (List ℕ))
+    → following ≡ text ∷ others → Progress lines words n following → n < length lines
+progress_room lines words n following text others cut p = omega (arith, p.count, ap length cut, ap length p.whole, length-append p.before following)
 
 -- no more lines
-pub progress_done : (lines words : List (List ℕ)) (n : ℕ) (behind : List (List ℕ)) → behind ≡ [] → Progress lines words n behind → list_in lines ≡ Ok words
+pub progress_done : (lines words : List (List ℕ)) (n : ℕ) (following : List (List ℕ)) → following ≡ [] → Progress lines words n following → list_in lines ≡ Ok words
 unfolding first_bad_line list_in
-progress_done lines words n behind none p =
-    let all = none_left at_line fault_behind lines p.before behind none p.same p.whole in
+progress_done lines words n following none p =
+    let all = none_remaining at_line fault_after lines p.before following none p.same p.whole in
     rw all.0 (ap Ok (sym (p.there ∙ ap words_in all.1)))
 
 -- what a loop over the lines of a text needs

@@ -2,7 +2,7 @@
 use Rattle.std.specs.Prelude.{◌≡◌, ℕ, ◌<◌, Bool, List, ◌++◌, length, map, reverse, All, Ok, IsTrue, ◌↔◌}
 use Rattle.lex_list.specs.Lines.{lines_of}
 use Rattle.lex_list.specs.Lists.{list_of, HoldsWordsOf}
-use Rattle.lex_list.specs.RotatedPaths.{letter_of, behind_mark, IsPath, is_path, StandsFor}
+use Rattle.lex_list.specs.RotatedPaths.{letter_of, after_mark, IsPath, is_path, StandsFor}
 use Rattle.lex_list.specs.Words.{is_listed, IsWordList, has_capitals_alone}
 
 -- A text that has a meaning means a word list, and its words are exactly those on the lines of the text.
@@ -28,4 +28,4 @@ StandingIsExact =
 abbrev pub SplitsAreStrings : Type 0
 SplitsAreStrings =
     (words : List (List ℕ)) (language : List ℕ → Bool) → StandsFor language words → (labels rest : List ℕ) → 0 < length labels → All (λ label. 0 < label) labels
-    → language (labels ++ behind_mark rest) ≡ is_listed words (map letter_of (reverse labels ++ rest))
+    → language (labels ++ after_mark rest) ≡ is_listed words (map letter_of (reverse labels ++ rest))

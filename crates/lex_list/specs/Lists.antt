@@ -46,12 +46,12 @@ abbrev pub at_line : ℕ → ListWhy → ListFault
 at_line line w = record { line = line; why = w }
 
 -- what is wrong with a line after these lines
-abbrev pub fault_behind : List (List ℕ) → List ℕ → Option ListWhy
-fault_behind before line = fault_of (words_in before) line
+abbrev pub fault_after : List (List ℕ) → List ℕ → Option ListWhy
+fault_after before line = fault_of (words_in before) line
 
 -- the first fault of further lines; the lines before them have none, and are numbered from 1
 unfoldable pub first_bad_line : List (List ℕ) → List (List ℕ) → Option ListFault
-first_bad_line before lines = first_bad at_line fault_behind before lines
+first_bad_line before lines = first_bad at_line fault_after before lines
 
 -- the words of lines, or their first fault
 unfoldable pub list_in : List (List ℕ) → Result (List (List ℕ)) ListFault
@@ -75,7 +75,7 @@ HoldsWordsOf words lines = (word : List ℕ) → Contains words word ↔ Any (Ho
 -- A line is the first with a fault: the lines before it have none, and after their words it has this one. Lines are
 -- numbered from 1.
 abbrev pub IsFirstFault : List (List ℕ) → ListFault → Type 0
-IsFirstFault lines fault = IsFirstBad at_line fault_behind lines fault
+IsFirstFault lines fault = IsFirstBad at_line fault_after lines fault
 
 -- the fault of a text, apart from lack of memory: it is too long, or else a line of it is the first with a fault
 abbrev pub IsFaultOf : List ℕ → ListFault → Type 0

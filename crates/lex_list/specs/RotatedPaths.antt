@@ -36,24 +36,24 @@ pub record IsPath (words : List (List ℕ)) (string : List ℕ) : Type 0 where
   pub path : string ≡ path_of front back
 
 -- labels after a mark, if there are any
-abbrev pub behind_mark : List ℕ → List ℕ
-behind_mark [] = []
-behind_mark (label ∷ rest) = mark ∷ label ∷ rest
+abbrev pub after_mark : List ℕ → List ℕ
+after_mark [] = []
+after_mark (label ∷ rest) = mark ∷ label ∷ rest
 
 -- ---- the test: the string is cut at its first mark, and the word is read back
 
 -- Whether a string, read on after a front, ends as a path of one of the words does. The front so far is read back from the labels
 -- before, the latest of them first.
-unfoldable pub is_path_behind : List (List ℕ) → List ℕ → List ℕ → Bool
-is_path_behind words front [] = nat_lt 0 (length front) && is_listed words front
-is_path_behind words front (label ∷ rest) =
+unfoldable pub is_path_after : List (List ℕ) → List ℕ → List ℕ → Bool
+is_path_after words front [] = nat_lt 0 (length front) && is_listed words front
+is_path_after words front (label ∷ rest) =
     if label == mark
     then nat_lt 0 (length front) && nat_lt 0 (length rest) && is_listed words (front ++ map letter_of rest)
-    else is_path_behind words (letter_of label ∷ front) rest
+    else is_path_after words (letter_of label ∷ front) rest
 
 -- whether a string is a rotated path of one of the words
 abbrev pub is_path : List (List ℕ) → List ℕ → Bool
-is_path words string = is_path_behind words [] string
+is_path words string = is_path_after words [] string
 
 -- A lexicon stands for the rotated paths of the words: the test for its strings agrees with that for the paths. By the law of
 -- rotated paths it then has a string exactly when the string is a rotated path of one of the words.

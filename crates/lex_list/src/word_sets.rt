@@ -59,7 +59,7 @@ impl WordSet {
         ensures { OnOk result (self.new ≡ insert_key word_order self.old word) }
     {
         if self.tree.is_empty() {
-            if is_behind(&self.row, &word) {
+            if is_after(&self.row, &word) {
                 self.row.push(word)?;
                 return Ok(());
             }
@@ -82,7 +82,7 @@ impl WordSet {
 }
 
 /// Whether a word comes after all words of a row in order.
-fn is_behind(row: &[Word], word: &Word) -> bool
+fn is_after(row: &[Word], word: &Word) -> bool
     requires { IsStrictlySortedBy word_order row.now }
     ensures { OnTrue result (insert_key word_order row.now word.now ≡ row.now ++ word.now ∷ []) }
 {

@@ -3,8 +3,8 @@ use Rattle.std.proofs.Common.{◌≡◌, ℕ, List}
 use Rattle.ref_tiles.specs.declared.rulebook.Rules.{Rules}
 use Rattle.gcg_read.specs.declared.events.Event.{Event}
 use Rattle.gcg_read.specs.declared.records.Record.{Record}
-use Rattle.score_sheets.specs.declared.sheets.ScoreSheet.{ScoreSheet}
-use Rattle.score_sheets.specs.Sheets.{IsScoreSheet}
+use Rattle.sheet_scores.specs.declared.sheets.ScoreSheet.{ScoreSheet}
+use Rattle.sheet_scores.specs.Sheets.{IsScoreSheet}
 use Rattle.page_answers.specs.declared.sheets.PageSheet.{PageSheet}
 use Rattle.page_answers.specs.Sheets.{parts_of, IsPageSheet}
 

@@ -3,8 +3,8 @@ use Rattle.std.proofs.Common.{◌≡◌, ℕ, List, Option, Some, Result, Ok, sy
 use Rattle.ref_tiles.specs.declared.rulebook.Rules.{Rules}
 use Rattle.gcg_read.specs.declared.events.Event.{Event}
 use Rattle.gcg_read.specs.declared.faults.ReadFault.{ReadFault}
-use Rattle.game_rows.specs.declared.walking.Walk.{Walk}
-use Rattle.game_rows.specs.Walks.{IsWalk, IsWalkOf}
+use Rattle.game_walk.specs.declared.walking.Walk.{Walk}
+use Rattle.game_walk.specs.Walks.{IsWalk, IsWalkOf}
 use Rattle.game_case.specs.declared.entries.Entry.{Entry}
 use Rattle.game_case.specs.declared.explains.Case.{Case}
 use Rattle.game_case.specs.Explaining.{IsWalkFor, IsCaseOf}
@@ -20,8 +20,8 @@ pub shown_for : (rules : Rules) (list : List (List ℕ)) (own text : List ℕ) (
 shown_for rules list own text read likely walked entry walk contents is_read is_walked same goes shows =
     let of_entry : IsWalkFor rules list (Ok entry) walked = subst (λ (r : Result Entry ReadFault). IsWalkFor rules list r walked) is_read goes in
     let over : IsWalkOf rules list entry.record.events walk = subst (λ (w : Option Walk). IsWalkFor rules list (Ok entry) w) is_walked of_entry in
-    let told = subst (λ (r : Result Entry ReadFault). ShowsEntry rules list own r likely entry contents) is_read (shows over.right over.is) in
-    let of_text = subst (λ (t : List ℕ). ShowsEntry rules list t (Ok entry) likely entry contents) same told in
+    let reported = subst (λ (r : Result Entry ReadFault). ShowsEntry rules list own r likely entry contents) is_read (shows over.right over.is) in
+    let of_text = subst (λ (t : List ℕ). ShowsEntry rules list t (Ok entry) likely entry contents) same reported in
     subst (λ (r : Result Entry ReadFault). IsShownOf rules list text r likely (Some contents)) (sym is_read) of_text
 
 -- the case of a text is also that of its own bytes

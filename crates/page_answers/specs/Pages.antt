@@ -3,17 +3,17 @@ use Rattle.std.specs.Prelude.{◌≡◌, ⊤, ℕ, nat_lt, Bool, true, false, Li
 use Rattle.ref_tiles.specs.declared.rulebook.Rules.{Rules}
 use Rattle.gcg_read.specs.declared.events.Event.{Event}
 use Rattle.gcg_read.specs.declared.faults.ReadFault.{ReadFault}
-use Rattle.game_rows.specs.declared.walking.Walk.{Walk}
-use Rattle.game_rows.specs.Walks.{IsWalk}
-use Rattle.audit_lines.specs.Wrong.{IsWrongAuditOf}
+use Rattle.game_walk.specs.declared.walking.Walk.{Walk}
+use Rattle.game_walk.specs.Walks.{IsWalk}
+use Rattle.sheet_audit.specs.Wrong.{IsWrongAuditOf}
 use Rattle.game_case.specs.declared.audits.Audit.{Audit}
 use Rattle.game_case.specs.declared.entries.Entry.{Entry}
 use Rattle.game_case.specs.declared.findings.Finding.{Finding}
 use Rattle.game_case.specs.Explaining.{case_line, IsCaseOf}
-use Rattle.case_openings.specs.Openings.{place_of_fault}
-use Rattle.case_explanations.specs.Explaining.{IsExplanation}
-use Rattle.name_texts.specs.Encodings.{encoding_of}
-use Rattle.record_words.specs.Words.{AreWordsOf}
+use Rattle.explain_openings.specs.Openings.{place_of_fault}
+use Rattle.explain_answers.specs.Explaining.{IsExplanation}
+use Rattle.gcg_names.specs.Encodings.{encoding_of}
+use Rattle.gcg_about.specs.Words.{AreWordsOf}
 use Rattle.repair_answers.specs.declared.likely.Likely.{Likely}
 use Rattle.repair_answers.specs.Likely.{IsLikelyOfCase}
 use Rattle.page_answers.specs.declared.makers.Maker.{Maker}

@@ -1,14 +1,14 @@
 -- The board with the likely repair of a record.
 use Rattle.std.specs.Prelude.{◌≡◌, ◌≤◌, Bool, true, false, length, Option, Some, None}
-use Rattle.record_changes.specs.declared.slips.Slip.{Slip}
-use Rattle.record_changes.specs.declared.slips.Slip.TheVariants as slip
-use Rattle.record_changes.specs.declared.slips.Misread.{Misread}
-use Rattle.record_changes.specs.declared.slips.Misread.TheVariants as misread
-use Rattle.record_changes.specs.declared.slips.MissingLine.{MissingLine}
-use Rattle.record_changes.specs.declared.slips.MissingLine.TheVariants as line
-use Rattle.record_repairs.specs.declared.repair.Repair.{Repair}
-use Rattle.score_sheets.specs.declared.pictures.Picture.{Picture}
-use Rattle.score_sheets.specs.Boards.{IsShownAt}
+use Rattle.repair_changes.specs.declared.slips.Slip.{Slip}
+use Rattle.repair_changes.specs.declared.slips.Slip.TheVariants as slip
+use Rattle.repair_changes.specs.declared.slips.Misread.{Misread}
+use Rattle.repair_changes.specs.declared.slips.Misread.TheVariants as misread
+use Rattle.repair_changes.specs.declared.slips.MissingLine.{MissingLine}
+use Rattle.repair_changes.specs.declared.slips.MissingLine.TheVariants as line
+use Rattle.repair_single.specs.declared.repair.Repair.{Repair}
+use Rattle.sheet_scores.specs.declared.pictures.Picture.{Picture}
+use Rattle.sheet_scores.specs.Boards.{IsShownAt}
 use Rattle.repair_answers.specs.declared.likely.Likely.{Likely}
 use Rattle.repair_answers.specs.declared.likely.Likely.TheVariants as likely_one
 

@@ -2,25 +2,25 @@
 ghost use Rattle.std.specs.Prelude.{◌≡◌, ◌<◌, ◌≤◌, ℕ, List, length, IfOk, IfSome};
 ghost use Rattle.gcg_read.specs.declared.events.Event.{Event};
 ghost use Rattle.lex_check.specs.Pairs.{list_in};
-ghost use Rattle.game_rows.specs.Walks.{IsWalk, IsWalkOf};
+ghost use Rattle.game_walk.specs.Walks.{IsWalk, IsWalkOf};
 ghost use Rattle.game_case.specs.Explaining.{IsCaseOf};
 ghost use Rattle.page_answers.specs.Pages.{faulty_place, place_in_view, IsAuditShown, ShowsEntry};
 
 use crate::repaired::repaired_board;
 use crate::sheets::{PageSheet, page_sheet};
-use audit_lines::audit_of_wrong;
-use case_explanations::explain;
-use case_openings::place_of_fault;
-use explanations::Explanation;
+use explain_answers::explain;
+use explain_events::Explanation;
+use explain_openings::place_of_fault;
 use game_case::{Audit, Case, Entry, Finding, case_line};
-use game_rows::Walk;
+use game_walk::Walk;
+use gcg_about::{RecordWords, words_of};
+use gcg_names::Encoding;
 use gcg_read::Event;
 use lex_check::Checked;
-use name_texts::Encoding;
-use record_words::{RecordWords, words_of};
 use ref_tiles::Rules;
 use repair_answers::Likely;
-use score_sheets::Picture;
+use sheet_audit::audit_of_wrong;
+use sheet_scores::Picture;
 use std::alloc::{AllocError, Global};
 
 /// What a page shows of a record besides its events and what is found of it.

@@ -2,10 +2,10 @@
 ghost use Rattle.std.specs.Prelude.{◌≡◌};
 ghost use Rattle.page_answers.specs.Repaired.{is_missing_play, is_in_word, is_of_play, IsBoardOf, IsRepairedBoard};
 
-use record_changes::{Misread, MissingLine, Slip};
-use record_repairs::Repair;
 use repair_answers::Likely;
-use score_sheets::{Picture, shown_at};
+use repair_changes::{Misread, MissingLine, Slip};
+use repair_single::Repair;
+use sheet_scores::{Picture, shown_at};
 
 /// Whether a missing line is a play.
 fn is_missing_play(line: &MissingLine) -> bool

@@ -2,15 +2,15 @@
 ghost use Rattle.std.specs.Prelude.{◌≡◌, ◌≤◌, List, length, IfOk};
 ghost use Rattle.gcg_read.specs.declared.events.Event.{Event};
 ghost use Rattle.lex_check.specs.Pairs.{list_in};
-ghost use Rattle.game_rows.specs.Walks.{IsWalk};
+ghost use Rattle.game_walk.specs.Walks.{IsWalk};
 ghost use Rattle.page_answers.specs.Sheets.{parts_of, IsPageSheet};
 
-use game_rows::Walk;
-use game_sheets::Standing;
+use game_corrections::Standing;
+use game_walk::Walk;
 use gcg_read::{Points, Record};
 use lex_check::Checked;
 use ref_tiles::Rules;
-use score_sheets::{Picture, Position, ScoreSheet, SheetRow, score_sheet};
+use sheet_scores::{Picture, Position, ScoreSheet, SheetRow, score_sheet};
 use std::alloc::{AllocError, Global};
 
 /// The score sheet of a record, apart from its players and its events, which are in the record.

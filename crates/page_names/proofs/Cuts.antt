@@ -12,7 +12,7 @@ pub parts_cut : (name : List ℕ) (i : ℕ) → Some i ≡ position is_slash nam
 parts_cut name i e = rw (rest_is (i + 1) name) (split_at is_slash name i (sym e))
 
 -- one more folder, and the slash after it
-pub one_part_more : (out part next : List ℕ) (parts behind : List (List ℕ)) → parts ≡ next ∷ behind
-    → ((out ++ folder_text part) ++ 47 ∷ []) ++ page_path (next ∷ behind) ≡ out ++ page_path (part ∷ parts)
-one_part_more out part next parts behind e =
-    rw e (append_assoc (out ++ folder_text part) (47 ∷ []) (page_path (next ∷ behind)) ∙ append_assoc out (folder_text part) (47 ∷ page_path (next ∷ behind)))
+pub one_part_more : (out part next : List ℕ) (parts following : List (List ℕ)) → parts ≡ next ∷ following
+    → ((out ++ folder_text part) ++ 47 ∷ []) ++ page_path (next ∷ following) ≡ out ++ page_path (part ∷ parts)
+one_part_more out part next parts following e =
+    rw e (append_assoc (out ++ folder_text part) (47 ∷ []) (page_path (next ∷ following)) ∙ append_assoc out (folder_text part) (47 ∷ page_path (next ∷ following)))

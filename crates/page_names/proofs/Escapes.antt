@@ -8,24 +8,24 @@ use Rattle.page_names.specs.Names.{is_slash, escaped_byte, escaped}
 pub same_byte : (a b : ℕ) → (a == b) ≡ true → a ≡ b
 same_byte a b e = grind (arith, nat_tests)
 
--- a text with % in place of each %25; the first bytes, as many as `behind` says, are those of an escape that was taken
-abbrev pub unescaped_behind : (behind : ℕ) → List ℕ → List ℕ
-unescaped_behind behind [] = []
-unescaped_behind (suc behind) (byte ∷ text) = unescaped_behind behind text
-unescaped_behind zero (byte ∷ text) = byte ∷ unescaped_behind (if byte == 37 then 2 else 0) text
+-- a text with % in place of each %25; the first bytes, as many as `following` says, are those of an escape that was taken
+abbrev pub unescaped_after : (following : ℕ) → List ℕ → List ℕ
+unescaped_after following [] = []
+unescaped_after (suc following) (byte ∷ text) = unescaped_after following text
+unescaped_after zero (byte ∷ text) = byte ∷ unescaped_after (if byte == 37 then 2 else 0) text
 
-unescape_byte : (byte : ℕ) (text : List ℕ) (is : Bool) → (byte == 37) ≡ is → unescaped_behind 0 (escaped text) ≡ text
-    → unescaped_behind 0 (escaped_byte byte ++ escaped text) ≡ byte ∷ text
+unescape_byte : (byte : ℕ) (text : List ℕ) (is : Bool) → (byte == 37) ≡ is → unescaped_after 0 (escaped text) ≡ text
+    → unescaped_after 0 (escaped_byte byte ++ escaped text) ≡ byte ∷ text
 unescape_byte byte text true e h = rw (e, same_byte byte 37 e, h) refl
 unescape_byte byte text false e h = rw (e, e, h) refl
 
-pub unescaped : (text : List ℕ) → unescaped_behind 0 (escaped text) ≡ text
+pub unescaped : (text : List ℕ) → unescaped_after 0 (escaped text) ≡ text
 unfolding escaped
 unescaped [] = refl
 unescaped (byte ∷ text) = unescape_byte byte text (byte == 37) refl (unescaped text)
 
 pub same_text : (one other : List ℕ) → escaped one ≡ escaped other → one ≡ other
-same_text one other e = sym (unescaped one) ∙ ap (unescaped_behind 0) e ∙ unescaped other
+same_text one other e = sym (unescaped one) ∙ ap (unescaped_after 0) e ∙ unescaped other
 
 -- ---- no slash comes in
 

@@ -1,14 +1,14 @@
 -- The names of folders differ.
 use Rattle.std.proofs.Common.{◌≡◌, ℕ, ◌==◌, ◌&&◌, Bool, true, false, not, List, [], ◌∷◌, ◌++◌, refl, sym, ap, ◌∙◌, if◌then◌else◌}
 use Rattle.page_names.specs.Names.{is_step, escaped_byte, escaped, folder_text}
-use Rattle.page_names.proofs.Escapes.{same_byte, unescaped_behind, unescaped, begins_two, is_whole, escaped_whole}
+use Rattle.page_names.proofs.Escapes.{same_byte, unescaped_after, unescaped, begins_two, is_whole, escaped_whole}
 
 -- the name that a folder of the pages has its own from
 abbrev pub unfolded : List ℕ → List ℕ
 unfolded [] = []
-unfolded (byte ∷ text) = if byte == 37 && not (begins_two text) then text else unescaped_behind 0 (byte ∷ text)
+unfolded (byte ∷ text) = if byte == 37 && not (begins_two text) then text else unescaped_after 0 (byte ∷ text)
 
-plain_by : (byte : ℕ) (text : List ℕ) (is : Bool) → (byte == 37) ≡ is → unfolded (escaped_byte byte ++ escaped text) ≡ unescaped_behind 0 (escaped_byte byte ++ escaped text)
+plain_by : (byte : ℕ) (text : List ℕ) (is : Bool) → (byte == 37) ≡ is → unfolded (escaped_byte byte ++ escaped text) ≡ unescaped_after 0 (escaped_byte byte ++ escaped text)
 plain_by byte text true e = rw e refl
 plain_by byte text false e = rw (e, e) refl
 

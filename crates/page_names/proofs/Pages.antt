@@ -5,7 +5,7 @@ use Rattle.std.specs.Cmp.Lexicographic.{pointwise}
 use Rattle.std.proofs.lemmas.List.{length-append, take-append-drop, append_assoc, append_cancel_right}
 use Rattle.std.proofs.lemmas.List.Folds.{list_all-append}
 use Rattle.page_names.specs.Names.{is_slash, is_step, escaped, has_ending, page_text}
-use Rattle.page_names.proofs.Escapes.{same_byte, unescaped_behind, unescaped, same_text, is_whole, escaped_whole, has_twos, escaped_twos, open_end}
+use Rattle.page_names.proofs.Escapes.{same_byte, unescaped_after, unescaped, same_text, is_whole, escaped_whole, has_twos, escaped_twos, open_end}
 
 pub both : (a b : Bool) → (a && b) ≡ true → (a ≡ true) × (b ≡ true)
 both true true e = (refl, refl)
@@ -100,7 +100,7 @@ index_by : (part : List ℕ) (is : Bool) → has_ending part ≡ is
 unfolding has_ending
 index_by part true e h =
     let same : escaped (front part) ≡ codes "index" = append_cancel_right (escaped (front part)) (codes "index") (codes ".html") h in
-    let name : front part ≡ codes "index" = sym (unescaped (front part)) ∙ ap (unescaped_behind 0) same in
+    let name : front part ≡ codes "index" = sym (unescaped (front part)) ∙ ap (unescaped_after 0) same in
     let whole : codes "index.gcg" ≡ part = ap (λ l. l ++ codes ".gcg") (sym name) ∙ with_ending part e in
     let ends : has_ending (codes "index.gcg") ≡ true = subst (λ l. has_ending l ≡ true) (sym whole) e in
     absurd cc

@@ -12,9 +12,9 @@ abbrev pub parts_of : List ℕ → List (List ℕ)
 parts_of name = slice_split is_slash name
 
 -- the parts of what is after a slash
-abbrev pub parts_behind : Option (Bor (List ℕ)) → List (List ℕ)
-parts_behind None = []
-parts_behind (Some after) = parts_of after.now
+abbrev pub parts_after : Option (Bor (List ℕ)) → List (List ℕ)
+parts_after None = []
+parts_after (Some after) = parts_of after.now
 
 -- % (37) is written %25
 abbrev pub escaped_byte : ℕ → List ℕ

@@ -1,7 +1,7 @@
 //! The name of a page.
 ghost use Rattle.std.specs.Prelude.{◌≡◌, ◌<◌, ◌++◌, ◌∷◌, IfSome, OnOk, length};
 ghost use Rattle.std.specs.List.{position};
-ghost use Rattle.page_names.specs.Names.{is_slash, parts_of, parts_behind, escaped_byte, escaped, is_step, folder_text, has_ending, page_text, page_name};
+ghost use Rattle.page_names.specs.Names.{is_slash, parts_of, parts_after, escaped_byte, escaped, is_step, folder_text, has_ending, page_text, page_name};
 
 use bstr::ByteSlice;
 use std::alloc::AllocError;
@@ -26,7 +26,7 @@ fn find_slash(name: &[u8]) -> Option<usize>
 /// Cuts the first part off a name.
 #[tactic(auto, using(crate::proofs::Cuts::parts_end))]
 fn cut_part(name: &[u8]) -> Cut<'_>
-    ensures parts { parts_of name.now ≡ result.part.now ∷ parts_behind result.after }
+    ensures parts { parts_of name.now ≡ result.part.now ∷ parts_after result.after }
     ensures shorter { IfSome result.after (λ after. length after.now < length name.now) }
 {
     match find_slash(name) {

@@ -3,11 +3,11 @@ ghost use Rattle.std.specs.Prelude.{◌≡◌, decimal, IfOk};
 ghost use Rattle.std.specs.Fmt.{signed_decimal};
 ghost use Rattle.gcg_write.specs.Fields as fields;
 
-use decimal_text::push_number;
 use gcg_write::{play_text, tiles_text};
 use ref_board::{Dir, Square};
 use ref_tiles::{Counts, Symbol};
 use std::alloc::{AllocError, Global};
+use text_decimals::push_number;
 
 /// A number as text.
 pub fn number_text(alloc: Global, number: i64) -> Result<Vec<u8>, AllocError>
@@ -19,7 +19,7 @@ pub fn number_text(alloc: Global, number: i64) -> Result<Vec<u8>, AllocError>
 }
 
 /// How many there are of something, as text.
-pub fn many_text(alloc: Global, many: usize) -> Result<Vec<u8>, AllocError>
+pub fn count_text(alloc: Global, many: usize) -> Result<Vec<u8>, AllocError>
     ensures { IfOk result (λ text. text.items ≡ decimal many) }
 {
     let mut text = Vec::new(alloc);

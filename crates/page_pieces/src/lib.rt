@@ -1,7 +1,7 @@
 //! The pieces of an HTML page.
 //!
 //! A [`PageText`] grows only by [`Piece`]s. Markup is part of the program; text of a record, numbers, tiles and plays are kinds of their own, and go
-//! through [`html_text::push_text`]. So the markup of a page is that of its pieces of markup, whatever the names of a record are: [`law_of_pieces`].
+//! through [`page_escapes::push_text`]. So the markup of a page is that of its pieces of markup, whatever the names of a record are: [`law_of_pieces`].
 #![tactic(auto)]
 
 mod fillings;

@@ -1,6 +1,6 @@
 //! A piece of a page.
 
-use name_texts::Encoding;
+use gcg_names::Encoding;
 use ref_board::{Dir, Square};
 use ref_tiles::{Counts, Symbol};
 

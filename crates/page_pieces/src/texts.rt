@@ -1,12 +1,12 @@
 //! The text of a page.
 ghost use Rattle.std.specs.Prelude.{◌≡◌, ◌++◌, OnOk, [], take, length};
-ghost use Rattle.name_texts.specs.Texts.{text_by};
+ghost use Rattle.gcg_names.specs.Texts.{text_by};
 ghost use Rattle.page_pieces.specs.Pieces.{shown, written, text_of};
 
-use crate::fillings::{counts_text, many_text, number_text, spot_text};
+use crate::fillings::{count_text, counts_text, number_text, spot_text};
 use crate::pieces::Piece;
-use html_text::push_text;
-use name_texts::Encoding;
+use gcg_names::Encoding;
+use page_escapes::push_text;
 use std::alloc::{AllocError, Global};
 
 /// The text of a page, which grows only by pieces.
@@ -42,7 +42,7 @@ fn push_piece(alloc: Global, bytes: &mut Vec<u8>, piece: &Piece<'_>) -> Result<(
             push_text(alloc, bytes, text.as_slice())
         }
         Piece::Many(many) => {
-            let text = many_text(alloc, *many)?;
+            let text = count_text(alloc, *many)?;
             push_text(alloc, bytes, text.as_slice())
         }
         Piece::Tiles(tiles) => {

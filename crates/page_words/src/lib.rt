@@ -1,4 +1,4 @@
-//! The page of a case as HTML: its parts (`game_page`), with what it says in sentences.
+//! The page of a case as HTML: its parts (`page_game`), with what it says in sentences.
 //!
 //! [`page_text`] writes it from the value that `page_answers` makes, and computes nothing. The sentences are those of `explain`, of `repair` and of
 //! `audit`.

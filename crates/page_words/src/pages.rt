@@ -1,8 +1,8 @@
 //! The page of a case.
 
 use crate::sentences::sentences_of;
-use game_page::{Shown, push_page};
 use page_answers::PagedCase;
+use page_game::{Shown, push_page};
 use page_pieces::PageText;
 use std::alloc::{AllocError, Global};
 

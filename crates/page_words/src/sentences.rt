@@ -1,11 +1,11 @@
 //! The sentences of a page.
 
-use audit_lines::push_last_line;
 use explain_lines::push_reason;
-use game_page::Shown;
+use explain_records::{push_time_racks, push_unread_lines};
 use page_answers::PagedCase;
-use record_sentences::{push_time_racks, push_unread_lines};
+use page_game::Shown;
 use repair_lines::push_likely;
+use sheet_audit::push_last_line;
 use std::alloc::{AllocError, Global};
 
 /// What a page says in sentences. They are those of `explain`, and the last line of `audit`.

@@ -113,12 +113,12 @@ anchor_parts board square size anchor =
     anchor.near
 
 -- what the tests of the neighbours and of an opening play say about an empty square
-pub anchor_told : (board : List (Option Tile)) (square : ℕ) (touched : Bool) → length board ≡ 225 → square < 225 → is_some (tile_at board square) ≡ false
+pub anchor_reported : (board : List (Option Tile)) (square : ℕ) (touched : Bool) → length board ≡ 225 → square < 225 → is_some (tile_at board square) ≡ false
     → touched ≡ touches board square → ((square ≡ centre) × HasNoTile board → ⊥) → (touched ≡ true) ↔ IsAnchor board square
-anchor_told board square touched size on free told later = (
-  λ t. anchor_from board square on (none_from_false (tile_at board square) free) (inl (sym told ∙ t)),
+anchor_reported board square touched size on free reported later = (
+  λ t. anchor_from board square on (none_from_false (tile_at board square) free) (inl (sym reported ∙ t)),
   λ anchor.
-      told
+      reported
       ∙ ⊎_elim
       (λ (t : touches board square ≡ true). t)
       (λ (c : (square ≡ centre) × HasNoTile board). absurd (later c))

@@ -28,7 +28,7 @@ pub record IsFirstBack (occupied : ℕ → Bool) (place first : ℕ) : Type 0 wh
 
 -- after `place` each place up to just before `end` has a tile, and `end` is off the line or has none
 pub record IsEndOn (occupied : ℕ → Bool) (place end : ℕ) : Type 0 where
-  pub behind : place < end
+  pub following : place < end
   pub inside : end ≤ 15
   pub filled : (k : ℕ) → place < k → k < end → occupied k ≡ true
   pub after : end < 15 → occupied end ≡ false

@@ -67,6 +67,6 @@ more_tiles (p ∷ q ∷ ps) across down =
     let column = on_one_line Down p (q ∷ ps) q d.3 (Contains-there p (q ∷ ps) q (Contains-here q ps)) in
     let same = same_square Across q.square p.square row column in
     let rising = and_parts (list_all (λ (r : Placed). nat_lt p.square r.square) (q ∷ ps)) (are_rising (q ∷ ps)) a.2 in
-    let behind = and_parts (nat_lt p.square q.square) (list_all (λ (r : Placed). nat_lt p.square r.square) ps) rising.0 in
-    let less = ltb-true p.square q.square behind.0 in
+    let following = and_parts (nat_lt p.square q.square) (list_all (λ (r : Placed). nat_lt p.square r.square) ps) rising.0 in
+    let less = ltb-true p.square q.square following.0 in
     absurd (omega arith)

@@ -24,7 +24,7 @@ use Rattle.ref_play.proofs.RangeLaws.{list_any-found, list_any-in, list_any-none
 use Rattle.ref_play.proofs.LineLaws.{square_at-of, place_rises, list_all_at, list_all_from}
 use Rattle.ref_play.proofs.RunLaws.{runs_formed-meet}
 use Rattle.ref_play.proofs.FormedRuns.{same_by_lines}
-use Rattle.ref_play.proofs.PlaceLaws.{is_play-parts, on_board, on_one_line, behind_first, before_last, last_is_there, with_tiles-holds}
+use Rattle.ref_play.proofs.PlaceLaws.{is_play-parts, on_board, on_one_line, after_first, before_last, last_is_there, with_tiles-holds}
 
 none_from_is_some : (tile : Option Tile) → is_some tile ≡ false → tile ≡ None
 none_from_is_some None e = refl
@@ -72,7 +72,7 @@ between_filled d after first ps p q place rising line gap has_p has_q low high =
     let line_q = on_one_line d first ps q line has_q in
     let last = last_is_there first ps in
     let line_last : line_of d (last_square first ps) ≡ line_of d first.square = ap (line_of d) (sym last.2) ∙ on_one_line d first ps last.0 line last.1 in
-    let from = place_follows d first.square p.square (sym line_p) (behind_first first ps p rising has_p) in
+    let from = place_follows d first.square p.square (sym line_p) (after_first first ps p rising has_p) in
     let upto = place_follows d q.square (last_square first ps) (line_q ∙ sym line_last) (before_last first ps q rising has_q) in
     let here : occupied place ≡ true = list_all_at occupied start (end - start) place full (omega arith) (omega arith) in
     ap (λ (l : ℕ). holds after (square_at d l place)) line_p ∙ here
@@ -224,6 +224,6 @@ no_fault-legal d board ps size play =
 -- an answer that gives the first fault is Ok exactly when the play is legal
 pub legal_from : (r : Result (Unit {0}) PlayFault) (d : Dir) (board : List (Option Tile)) (ps : List Placed) → length board ≡ 225 → is_play d ps ≡ true
     → Refuses r (fault_of d board ps) → (is_ok r ≡ true → IsLegal board ps) × (IsLegal board ps → is_ok r ≡ true)
-legal_from (Ok u) d board ps size play told = (λ _. (no_fault-legal d board ps size play).0 told, λ _. refl)
-legal_from (Err why) d board ps size play told =
-    (λ e. absurd (false≢true e), λ l. let none : None ≡ Some why = sym ((no_fault-legal d board ps size play).1 l) ∙ told in (cc))
+legal_from (Ok u) d board ps size play reported = (λ _. (no_fault-legal d board ps size play).0 reported, λ _. refl)
+legal_from (Err why) d board ps size play reported =
+    (λ e. absurd (false≢true e), λ l. let none : None ≡ Some why = sym ((no_fault-legal d board ps size play).1 l) ∙ reported in (cc))

@@ -163,9 +163,9 @@ notation_direction e board ps size play legal =
     ap (λ runs. (written_on ps runs).dir) run.runs
 
 -- different placements have different notations
-pub notation_tells : (e f : Dir) (board : List (Option Tile)) (a b : List Placed) → length board ≡ 225 → is_play e a ≡ true → is_play f b ≡ true → IsLegal board a → IsLegal board b
+pub notation_differs : (e f : Dir) (board : List (Option Tile)) (a b : List Placed) → length board ≡ 225 → is_play e a ≡ true → is_play f b ≡ true → IsLegal board a → IsLegal board b
     → notation_of board a ≡ notation_of board b → a ≡ b
-notation_tells e f board a b size play_a play_b legal_a legal_b same =
+notation_differs e f board a b size play_a play_b legal_a legal_b same =
     sym (notation_reads e board a size play_a legal_a)
     ∙ ap (λ (w : Written). placement_of board w.dir w.at w.word) same
     ∙ notation_reads f board b size play_b legal_b

@@ -26,7 +26,7 @@ use Rattle.ref_play.specs.contracts.notations.NotationPartialOrd.TheImpl as nota
 use Rattle.ref_play.specs.Placements.{is_play}
 use Rattle.ref_play.specs.Legality.{IsLegal}
 use Rattle.ref_play.specs.Notations.{Written, notation_of, dir_number, written, written_cmp, ComesBefore}
-use Rattle.ref_play.proofs.Naming.{notation_tells}
+use Rattle.ref_play.proofs.Naming.{notation_differs}
 
 -- ---- the order of texts and of where they are
 pub written_total : IsTotalOrder written_cmp
@@ -46,7 +46,7 @@ same_dir Down Down e = refl
 
 same_symbol : (a b : Symbol) → byte_of a ≡ byte_of b → a ≡ b
 same_symbol a b e =
-    let told : Some a ≡ Some b = sym (read_again a) ∙ ap symbol_of e ∙ read_again b in cc
+    let reported : Some a ≡ Some b = sym (read_again a) ∙ ap symbol_of e ∙ read_again b in cc
 
 same_word : (xs ys : List Symbol) → map byte_of xs ≡ map byte_of ys → xs ≡ ys
 same_word [] [] e = refl
@@ -92,7 +92,7 @@ one_first d e board a b size play_a play_b legal_a legal_b =
     let v = notation_of board a in
     let w = notation_of board b in
     ⊎_elim
-    (λ (same : v ≡ w). inl (notation_tells d e board a b size play_a play_b legal_a legal_b same))
+    (λ (same : v ≡ w). inl (notation_differs d e board a b size play_a play_b legal_a legal_b same))
     (λ (one : (written_cmp v w ≡ Less) ⊎ (written_cmp w v ≡ Less)). inr one)
     (of_answer v w (written_cmp v w) (written_cmp w v) refl refl (written_total.antisymm v w))
 
@@ -148,6 +148,6 @@ less-from Greater e = absurd (let h = e in cc)
 pub before_is : (board : List (Option Tile)) (a b : List Placed) (x y : Notation) (r : Bool) → written x ≡ notation_of board a → written y ≡ notation_of board b
     → r ≡ partial_lt (notation_partial_ord.partial_cmp-value).it x y → IsTrue r ↔ ComesBefore board a b
 before_is board a b x y r first second e =
-    let told : r ≡ is_lt (written_cmp (notation_of board a) (notation_of board b)) =
+    let reported : r ≡ is_lt (written_cmp (notation_of board a) (notation_of board b)) =
     e ∙ is_less x y ∙ ap (λ v. is_lt (written_cmp v (written y))) first ∙ ap (λ w. is_lt (written_cmp (notation_of board a) w)) second in
-    (λ t. less-from (written_cmp (notation_of board a) (notation_of board b)) (sym told ∙ t), λ less. told ∙ ap is_lt less)
+    (λ t. less-from (written_cmp (notation_of board a) (notation_of board b)) (sym reported ∙ t), λ less. reported ∙ ap is_lt less)

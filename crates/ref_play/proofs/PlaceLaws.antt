@@ -37,8 +37,8 @@ on_one_line d first ps p e c =
     (λ (s : Contains ps p). eqb-true (line_of d p.square) (line_of d first.square) (list_all-in (λ (q : Placed). line_of d q.square == line_of d first.square) ps p e s))
     (Contains-cases first ps p c)
 
-pub behind_first : (first : Placed) (ps : List Placed) (p : Placed) → are_rising (first ∷ ps) ≡ true → Contains (first ∷ ps) p → first.square ≤ p.square
-behind_first first ps p e c =
+pub after_first : (first : Placed) (ps : List Placed) (p : Placed) → are_rising (first ∷ ps) ≡ true → Contains (first ∷ ps) p → first.square ≤ p.square
+after_first first ps p e c =
     let parts = and_parts (list_all (λ (q : Placed). nat_lt first.square q.square) ps) (are_rising ps) e in
     ⊎_elim
     (λ (s : first ≡ p). let same = ap (λ (q : Placed). q.square) s in omega arith)

@@ -59,15 +59,15 @@ product_one : (f : Placed → ℕ) (q : Placed) (ps : List Placed) → are_risin
 product_one f q [] rising c ones = absurd (none_contained q c)
 product_one f q (p ∷ ps) rising c ones =
     let parts = and_parts (list_all (λ (r : Placed). nat_lt p.square r.square) ps) (are_rising ps) rising in
-    let behind : (r : Placed) → Contains ps r → p.square < r.square =
+    let following : (r : Placed) → Contains ps r → p.square < r.square =
     λ r c. ltb-true p.square r.square (list_all-in (λ (s : Placed). nat_lt p.square s.square) ps r parts.0 c) in
     ⊎_elim
     (λ (s : p ≡ q).
     let same = ap (λ (r : Placed). r.square) s in
-    let rest = product_none f ps (λ r d. let less = behind r d in ones r (Contains-there p ps r d) (λ e. omega arith)) in
+    let rest = product_none f ps (λ r d. let less = following r d in ones r (Contains-there p ps r d) (λ e. omega arith)) in
     rw rest (let here = ap f s in omega arith))
     (λ (s : Contains ps q).
-    let less = behind q s in
+    let less = following q s in
     let rest = product_one f q ps parts.1 s (λ r d ne. ones r (Contains-there p ps r d) ne) in
     rw (ones p (Contains-here p ps) (λ e. omega arith)) (rw rest (omega arith)))
     (Contains-cases p ps q c)

@@ -41,23 +41,23 @@ first_back occupied (suc n) =
 
 pub end_on : (occupied : ℕ → Bool) (place room : ℕ) → place + suc room ≡ 15 → (end : ℕ) × IsEndOn occupied place end
 end_on occupied place zero e =
-    (15, record { behind = omega arith; inside = omega arith; filled = λ k low high. absurd (omega arith); after = λ more. absurd (omega arith) })
+    (15, record { following = omega arith; inside = omega arith; filled = λ k low high. absurd (omega arith); after = λ more. absurd (omega arith) })
 end_on occupied place (suc room) e =
     ⊎_elim
     (λ (here : occupied (place + 1) ≡ true).
     let rest = end_on occupied (place + 1) room (omega arith) in
     let on = rest.1 in
-    let behind = on.behind in (
+    let following = on.following in (
       rest.0,
       record {
-        behind = omega arith;
+        following = omega arith;
         inside = on.inside;
         filled = λ k low high. ⊎_elim (λ (s : k ≡ place + 1). ap occupied s ∙ here) (λ (ne : k ≡ place + 1 → ⊥). on.filled k (omega arith) high) (cases_eq k (place + 1));
         after = on.after;
       },
     ))
     (λ (none : occupied (place + 1) ≡ false).
-    (place + 1, record { behind = omega arith; inside = omega arith; filled = λ k low high. absurd (omega arith); after = λ more. none }))
+    (place + 1, record { following = omega arith; inside = omega arith; filled = λ k low high. absurd (omega arith); after = λ more. none }))
     (cases_Bool (occupied (place + 1)))
 
 -- the whole stretch through a place that has a tile
@@ -75,7 +75,7 @@ stretch_through occupied place below here =
     let first = back.0 in
     let end = on.0 in
     let low = back.1.not_after in
-    let high = on.1.behind in
+    let high = on.1.following in
     let inside = on.1.inside in
     let reaches : first + (end - first) ≡ end = omega arith in
     record {

@@ -43,9 +43,9 @@ fits_new square None symbol.Dot ps e = absurd (false≢true e)
 fits_new square None (symbol.Letter l) ps e = inr (_, Contains-here _ ps, refl)
 fits_new square None (symbol.Blank l) ps e = inr (_, Contains-here _ ps, refl)
 
-behind_placed : (square : ℕ) (o : Option Tile) (ps : List Placed) (p : Placed) → Contains ps p → Contains (placed_on square o ++ ps) p
-behind_placed square None ps p c = c
-behind_placed square (Some t) ps p c = Contains-there _ ps p c
+after_placed : (square : ℕ) (o : Option Tile) (ps : List Placed) (p : Placed) → Contains ps p → Contains (placed_on square o ++ ps) p
+after_placed square None ps p c = c
+after_placed square (Some t) ps p c = Contains-there _ ps p c
 
 cell_filled : (board : List (Option Tile)) (d : Dir) (at j k : ℕ) (word : List Symbol) → list_all (fits_board board) (cells_from d at j word) ≡ true → j ≤ k → k < j + length word
     → (holds board (along d at k) ≡ true) ⊎ ((p : Placed) × Contains (flat_map (new_tiles board) (cells_from d at j word)) p × (p.square ≡ along d at k))
@@ -62,7 +62,7 @@ cell_filled board d at j k (s ∷ word) h low high =
     ⊎_elim
     (λ (old : holds board (along d at k) ≡ true). inl old)
     (λ (found : (p : Placed) × Contains rest p × (p.square ≡ along d at k)).
-    inr (found.0, behind_placed (along d at j) (tile_of o s) rest found.0 found.1, found.2))
+    inr (found.0, after_placed (along d at j) (tile_of o s) rest found.0 found.1, found.2))
     (cell_filled board d at (j + 1) k word parts.1 (omega arith) (omega arith)))
     (cases_eq j k)
 

@@ -93,11 +93,11 @@ written_down d board (p ∷ ps) none at k run size play legal row short way thro
     let after = with_tiles board ts in
     let on = on_board ts p (is_play-parts d ts play).1 (Contains-here p ps) in
     let chosen : direction_of board ts ≡ Down = ap (λ b. cond b Across Down) (not_across d board p ps at k size play legal row short) in
-    let told : RunsAlong Down board ts = subst (λ e. RunsAlong e board ts) chosen (written_along d board ts size play legal) in
-    let along : runs_along Down after ts ≡ runs_through Down after p.square = along_runs Down after p ps (laid_from Down board ts size told.play legal.no_gap) in
+    let reported : RunsAlong Down board ts = subst (λ e. RunsAlong e board ts) chosen (written_along d board ts size play legal) in
+    let along : runs_along Down after ts ≡ runs_through Down after p.square = along_runs Down after p ps (laid_from Down board ts size reported.play legal.no_gap) in
     let long : 2 ≤ run.len = ⊎_elim
     (λ (h : run.len < 2).
-    let nothing : run_of Down told.line (told.first, told.len) ∷ [] ≡ [] = sym told.runs ∙ along ∙ no_run_through Down after p.square run.start run.len through h in
-    let none_left = ap length nothing in absurd (omega arith))
+    let nothing : run_of Down reported.line (reported.first, reported.len) ∷ [] ≡ [] = sym reported.runs ∙ along ∙ no_run_through Down after p.square run.start run.len through h in
+    let none_remaining = ap length nothing in absurd (omega arith))
     (λ (h : 2 ≤ run.len). h) (cases_lt run.len 2) in
     ap (λ e. runs_along e after ts) chosen ∙ along ∙ run_through Down after p.square run.start run.len on through long ∙ of_way Down run way

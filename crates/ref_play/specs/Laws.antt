@@ -66,8 +66,8 @@ NotationsReadBack =
     × (placement_of board (notation_of board ps).dir (notation_of board ps).at (notation_of board ps).word ≡ ps)
 
 -- two legal placements with one notation are equal
-abbrev pub NotationsTell : Type 0
-NotationsTell =
+abbrev pub NotationsDiffer : Type 0
+NotationsDiffer =
     (d e : Dir) (board : List (Option Tile)) (a b : List Placed) → length board ≡ 225 → is_play d a ≡ true → is_play e b ≡ true → IsLegal board a → IsLegal board b
     → notation_of board a ≡ notation_of board b → a ≡ b
 

@@ -1,5 +1,5 @@
 //! Laws of the definitions that the contracts of plays cite. Each function does nothing: its contract is the law.
-ghost use Rattle.ref_play.specs.Laws.{RunsAreThoseMet, RunsAreDistinct, FaultlessIsLegal, OneTileFitsBoth, OneTileHasOneFault, WordsFitBoth, MoreTilesFitOne, TakingBackRestores, WrittenAlongItsRun, NotationsReadBack, NotationsTell, NoneBeforeItself, BeforeIsTransitive, OneComesBefore, LegalIsSound, WordsAreOfLines, ScoreIsOfLines, BlanksCrossAlike};
+ghost use Rattle.ref_play.specs.Laws.{RunsAreThoseMet, RunsAreDistinct, FaultlessIsLegal, OneTileFitsBoth, OneTileHasOneFault, WordsFitBoth, MoreTilesFitOne, TakingBackRestores, WrittenAlongItsRun, NotationsReadBack, NotationsDiffer, NoneBeforeItself, BeforeIsTransitive, OneComesBefore, LegalIsSound, WordsAreOfLines, ScoreIsOfLines, BlanksCrossAlike};
 
 /// The runs that a placement forms are the maximal stretches of two tiles or more, in a row or a column, that have
 /// one of its tiles, each once.
@@ -31,11 +31,11 @@ pub fn law_of_undoing()
 
 /// A legal placement has one notation: it lies in one run along the direction in which it is written, the text on that run has no
 /// fault and names the placement, and no other placement has the same notation.
-#[tactic(auto, using(crate::proofs::Naming::notation_tells))]
+#[tactic(auto, using(crate::proofs::Naming::notation_differs))]
 pub fn law_of_notations()
     ensures along { WrittenAlongItsRun }
     ensures read_back { NotationsReadBack }
-    ensures tell { NotationsTell }
+    ensures report { NotationsDiffer }
 {}
 
 /// The order of plays by their notations is a strict total order on the legal placements of a board: none comes before itself, the

@@ -12,7 +12,7 @@ use Rattle.ref_tiles.specs.Limits.{most_tiles}
 use Rattle.ref_tiles.specs.Parts.{parts_of}
 use Rattle.ref_tiles.specs.RulesFaults.{at_line}
 use Rattle.ref_tiles.specs.Statements.{parameter_in, tile_of, tile_in, row_of, number_in, statement_in, statement_of}
-use Rattle.ref_tiles.specs.RulesTexts.{entry_in, entries_in, fault_behind, first_bad_line, counts_with, points_with, premiums_with, whole_fault, parts_in, meaning_of}
+use Rattle.ref_tiles.specs.RulesTexts.{entry_in, entries_in, fault_after, first_bad_line, counts_with, points_with, premiums_with, whole_fault, parts_in, meaning_of}
 
 -- ---- the English game
 
@@ -50,30 +50,30 @@ abbrev english_text : List ℕ
 english_text = text_with (codes "tile A 9 1" ++ 10 ∷ [])
 
 english_meaning : meaning_of english_text ≡ Ok (parts_of english)
-unfolding meaning_of parts_in first_bad_line fault_behind whole_fault entries_in entry_in counts_with points_with premiums_with statement_of statement_in tile_in tile_of row_of number_in parameter_in lines_in fields_of premium_of letter_at most_tiles english english_premiums
+unfolding meaning_of parts_in first_bad_line fault_after whole_fault entries_in entry_in counts_with points_with premiums_with statement_of statement_in tile_in tile_of row_of number_in parameter_in lines_in fields_of premium_of letter_at most_tiles english english_premiums
 english_meaning = refl
 
 -- 200 tiles
 all_tiles : meaning_of (text_with (codes "tile A 109 1" ++ 10 ∷ [])) ≡ Ok (record (parts_of english) { counts = 109 ∷ drop 1 english_counts })
-unfolding meaning_of parts_in first_bad_line fault_behind whole_fault entries_in entry_in counts_with points_with premiums_with statement_of statement_in tile_in tile_of row_of number_in parameter_in lines_in fields_of premium_of letter_at most_tiles english english_premiums
+unfolding meaning_of parts_in first_bad_line fault_after whole_fault entries_in entry_in counts_with points_with premiums_with statement_of statement_in tile_in tile_of row_of number_in parameter_in lines_in fields_of premium_of letter_at most_tiles english english_premiums
 all_tiles = refl
 
 tile_more : meaning_of (text_with (codes "tile A 110 1" ++ 10 ∷ [])) ≡ Err (at_line 0 why.Limits)
-unfolding meaning_of parts_in first_bad_line fault_behind whole_fault entries_in entry_in counts_with points_with premiums_with statement_of statement_in tile_in tile_of row_of number_in parameter_in lines_in fields_of premium_of letter_at most_tiles
+unfolding meaning_of parts_in first_bad_line fault_after whole_fault entries_in entry_in counts_with points_with premiums_with statement_of statement_in tile_in tile_of row_of number_in parameter_in lines_in fields_of premium_of letter_at most_tiles
 tile_more = refl
 
 no_row_8 : meaning_of (codes "tile A 9 1" ++ 10 ∷ tiles_from_b ++ other_rows ++ parameters) ≡ Err (at_line 0 why.Missing)
-unfolding meaning_of parts_in first_bad_line fault_behind whole_fault entries_in entry_in counts_with points_with premiums_with statement_of statement_in tile_in tile_of row_of number_in parameter_in lines_in fields_of premium_of letter_at most_tiles
+unfolding meaning_of parts_in first_bad_line fault_after whole_fault entries_in entry_in counts_with points_with premiums_with statement_of statement_in tile_in tile_of row_of number_in parameter_in lines_in fields_of premium_of letter_at most_tiles
 no_row_8 = refl
 
 -- an extra line after the 47 lines
 bonus_again : meaning_of (english_text ++ codes "bonus 50") ≡ Err (at_line 48 why.Twice)
-unfolding meaning_of parts_in first_bad_line fault_behind entry_in statement_of statement_in tile_in tile_of row_of number_in parameter_in lines_in fields_of premium_of letter_at
+unfolding meaning_of parts_in first_bad_line fault_after entry_in statement_of statement_in tile_in tile_of row_of number_in parameter_in lines_in fields_of premium_of letter_at
 bonus_again = refl
 
 -- an extra line before them
 blank_first : meaning_of (codes "tile ? 2 1" ++ 10 ∷ english_text) ≡ Err (at_line 1 why.Number)
-unfolding meaning_of parts_in first_bad_line fault_behind entry_in statement_of statement_in tile_in tile_of row_of number_in parameter_in lines_in fields_of premium_of letter_at
+unfolding meaning_of parts_in first_bad_line fault_after entry_in statement_of statement_in tile_in tile_of row_of number_in parameter_in lines_in fields_of premium_of letter_at
 blank_first = refl
 
 -- ---- short texts
@@ -96,5 +96,5 @@ first_faults : Agree (
     ∷ (meaning_of [], Err (at_line 0 why.Missing))
     ∷ (meaning_of (codes "bonus 50"), Err (at_line 0 why.Missing))
     ∷ [])
-unfolding meaning_of parts_in first_bad_line fault_behind statement_of statement_in parameter_in lines_in fields_of tile_in number_in tile_of letter_at row_of premium_of entry_in whole_fault entries_in
+unfolding meaning_of parts_in first_bad_line fault_after statement_of statement_in parameter_in lines_in fields_of tile_in number_in tile_of letter_at row_of premium_of entry_in whole_fault entries_in
 first_faults = refl

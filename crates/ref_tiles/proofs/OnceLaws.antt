@@ -18,7 +18,7 @@ use Rattle.ref_tiles.specs.declared.statements.Entry.{Entry}
 use Rattle.ref_tiles.specs.Parts.{are_in_limits}
 use Rattle.ref_tiles.specs.RulesFaults.{at_line}
 use Rattle.ref_tiles.specs.Statements.{statement_of}
-use Rattle.ref_tiles.specs.RulesTexts.{stated_by, entry_in, entries_in, repeats, fault_behind, first_bad_line, parts_with, whole_fault, drafted, ended, Gives, IsOnce, AreOnce}
+use Rattle.ref_tiles.specs.RulesTexts.{stated_by, entry_in, entries_in, repeats, fault_after, first_bad_line, parts_with, whole_fault, drafted, ended, Gives, IsOnce, AreOnce}
 use Rattle.ref_tiles.proofs.RulesSteps.{entry_in-append, entries_at, length-entries}
 
 some-or : (a b : Option Entry) → is_some a ≡ true → is_some (option_or a b) ≡ true
@@ -26,8 +26,8 @@ some-or None b e = absurd cc
 some-or (Some x) b e = refl
 
 -- a line without a fault is not about an item that was already stated
-not_again : (front : List (List ℕ)) (line : List ℕ) (item : ℕ) → fault_behind front line ≡ None → is_some (entry_in front item) ≡ true → stated_by item (statement_of line) ≡ None
-unfolding fault_behind
+not_again : (front : List (List ℕ)) (line : List ℕ) (item : ℕ) → fault_after front line ≡ None → is_some (entry_in front item) ≡ true → stated_by item (statement_of line) ≡ None
+unfolding fault_after
 not_again front line item fine some = by (statement_of line) fine
   where
     by : (r : Result (Option Statement) RulesWhy) → repeats front r ≡ None → stated_by item r ≡ None
@@ -46,7 +46,7 @@ none_later : (front rest : List (List ℕ)) (item : ℕ) → first_bad_line fron
 unfolding first_bad_line entry_in
 none_later front [] item fine some = refl
 none_later front (line ∷ rest) item fine some =
-    let parts = no_earlier (at_line (length front + 1)) (fault_behind front line) (first_bad_line (front ++ line ∷ []) rest) fine in
+    let parts = no_earlier (at_line (length front + 1)) (fault_after front line) (first_bad_line (front ++ line ∷ []) rest) fine in
     let here = not_again front line item parts.0 some in
     let more : is_some (entry_in (front ++ line ∷ []) item) ≡ true = rw (entry_in-append front line item) (some-or (entry_in front item) (stated_by item (statement_of line)) some) in
     rw here (none_later (front ++ line ∷ []) rest item parts.1 more)
@@ -55,9 +55,9 @@ once_from : (before rest : List (List ℕ)) (item : ℕ) (e : Entry) → first_b
 unfolding first_bad_line entry_in
 once_from before [] item e fine none there = absurd cc
 once_from before (line ∷ rest) item e fine none there =
-    let parts = no_earlier (at_line (length before + 1)) (fault_behind before line) (first_bad_line (before ++ line ∷ []) rest) fine in
+    let parts = no_earlier (at_line (length before + 1)) (fault_after before line) (first_bad_line (before ++ line ∷ []) rest) fine in
     by (stated_by item (statement_of line)) refl parts.1
-    (λ nothing behind. once_from (before ++ line ∷ []) rest item e parts.1 (entry_in-append before line item ∙ rw (none, nothing) refl) behind)
+    (λ nothing following. once_from (before ++ line ∷ []) rest item e parts.1 (entry_in-append before line item ∙ rw (none, nothing) refl) following)
     there
   where
     by : (o : Option Entry) → stated_by item (statement_of line) ≡ o → first_bad_line (before ++ line ∷ []) rest ≡ None
@@ -69,7 +69,7 @@ once_from before (line ∷ rest) item e fine none there =
         record {
           before = before;
           line = line;
-          behind = rest;
+          following = rest;
           whole = refl;
           states = is ∙ there;
           earlier = none;

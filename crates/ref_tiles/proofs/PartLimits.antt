@@ -54,9 +54,9 @@ pub ruleset refusals = (no_counts, no_points, no_bonus, no_exchange_min, no_zero
 -- ---- one number past its limit
 
 -- a kind with more tiles than a byte counts
-pub many_tiles : (draft : List (Option Entry)) (kind : ℕ) → kind < 27 → 255 < count_in (entry_at draft kind) → is_tile_set (counts_with draft) ≡ false
+pub count_tiles : (draft : List (Option Entry)) (kind : ℕ) → kind < 27 → 255 < count_in (entry_at draft kind) → is_tile_set (counts_with draft) ≡ false
 unfolding most_tiles counts_with
-many_tiles draft kind below over =
+count_tiles draft kind below over =
     let counts = counts_with draft in
     let size = length-map-range_with_len (λ k. count_in (entry_at draft k)) 0 27 in
     let here = get_or-map-range_with_len (λ k. count_in (entry_at draft k)) 0 27 kind kind 0 below (omega arith) in
@@ -64,9 +64,9 @@ many_tiles draft kind below over =
     second (nat_le 14 (sum counts)) (nat_le (sum counts) most_tiles) (lt-leb (sum counts) most_tiles (omega (arith, here, part)))
 
 -- a letter with more points than a byte counts
-pub many_points : (draft : List (Option Entry)) (letter : ℕ) → letter < 26 → 255 < points_in (entry_at draft letter) → are_points (points_with draft) ≡ false
+pub count_points : (draft : List (Option Entry)) (letter : ℕ) → letter < 26 → 255 < points_in (entry_at draft letter) → are_points (points_with draft) ≡ false
 unfolding points_with
-many_points draft letter below over =
+count_points draft letter below over =
     let points = points_with draft in
     let size = length-map-range_with_len (λ k. points_in (entry_at draft k)) 0 26 in
     let here = get_or-map-range_with_len (λ k. points_in (entry_at draft k)) 0 26 letter letter 0 below (omega arith) in

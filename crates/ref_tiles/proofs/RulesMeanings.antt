@@ -12,7 +12,7 @@ use Rattle.ref_tiles.specs.declared.rules_faults.RulesFault.{RulesFault}
 use Rattle.ref_tiles.specs.declared.rulebook.Rules.{Rules}
 use Rattle.ref_tiles.specs.declared.statements.Entry.{Entry}
 use Rattle.ref_tiles.specs.RulesFaults.{at_line}
-use Rattle.ref_tiles.specs.RulesTexts.{most_text_bytes, entries_in, fault_behind, first_bad_line, parts_with, whole_fault, parts_in, meaning_of, drafted, ended, Gives, IsFirstFault, IsWholeFault, IsFaultOf}
+use Rattle.ref_tiles.specs.RulesTexts.{most_text_bytes, entries_in, fault_after, first_bad_line, parts_with, whole_fault, parts_in, meaning_of, drafted, ended, Gives, IsFirstFault, IsWholeFault, IsFaultOf}
 
 -- ---- the meaning, by what is read
 
@@ -74,7 +74,7 @@ lines_fault lines fault e = by (first_bad_line [] lines) refl e
         → or_fault (option_or o (option_map (at_line 0) (whole_fault (entries_in lines)))) (parts_with (entries_in lines)) ≡ Err fault
         → IsFirstFault lines fault ⊎ IsWholeFault lines fault
     by None none e = inr (whole (whole_fault (entries_in lines)) refl none e)
-    by (Some f) is e = let same : f ≡ fault = cc in inl (first_bad-is at_line fault_behind lines fault (is ∙ ap Some same))
+    by (Some f) is e = let same : f ≡ fault = cc in inl (first_bad-is at_line fault_after lines fault (is ∙ ap Some same))
 
 -- the fault of a text
 pub text_fault : (text : List ℕ) (fault : RulesFault) → meaning_of text ≡ Err fault → IsFaultOf text fault

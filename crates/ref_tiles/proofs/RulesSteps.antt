@@ -7,7 +7,7 @@ use Rattle.std.proofs.lemmas.List.FromFn.{length-map-range_with_len, get_or-map-
 use Rattle.std.proofs.lemmas.Bool.Decides.{eqb_tells, nat_tests}
 use Rattle.first_faults.specs.Checks.{or_fault}
 use Rattle.first_faults.proofs.CheckLaws.{or_fault_none, or_fault_some}
-use Rattle.first_faults.proofs.FirstBadLaws.{none_left}
+use Rattle.first_faults.proofs.FirstBadLaws.{none_remaining}
 use Rattle.ref_tiles.specs.declared.rules_faults.RulesWhy.{RulesWhy}
 use Rattle.ref_tiles.specs.declared.rules_faults.RulesWhy.TheVariants as why
 use Rattle.ref_tiles.specs.declared.rules_faults.RulesFault.{RulesFault}
@@ -15,7 +15,7 @@ use Rattle.ref_tiles.specs.declared.statements.Statement.{Statement}
 use Rattle.ref_tiles.specs.declared.statements.Entry.{Entry}
 use Rattle.ref_tiles.specs.RulesFaults.{at_line}
 use Rattle.ref_tiles.specs.Statements.{statement_of, IsLinePlace}
-use Rattle.ref_tiles.specs.RulesTexts.{stated_by, entry_in, entries_in, repeats, fault_behind, first_bad_line, more_by, drafted}
+use Rattle.ref_tiles.specs.RulesTexts.{stated_by, entry_in, entries_in, repeats, fault_after, first_bad_line, more_by, drafted}
 
 -- ---- what one more line states
 
@@ -83,8 +83,8 @@ put_more before line s e none =
 
 -- what a line makes of the entries of the lines before it: they are those with the line, unless it has a fault
 pub line_more : (before : List (List ℕ)) (line : List ℕ) (n : ℕ) → IsLinePlace (statement_of line)
-    → more_by (entries_in before) n (statement_of line) ≡ or_fault (option_map (at_line n) (fault_behind before line)) (entries_in (before ++ line ∷ []))
-unfolding fault_behind
+    → more_by (entries_in before) n (statement_of line) ≡ or_fault (option_map (at_line n) (fault_after before line)) (entries_in (before ++ line ∷ []))
+unfolding fault_after
 line_more before line n place = by (statement_of line) refl place
   where
     placed : (s : Statement) (o : Option Entry) → statement_of line ≡ Ok (Some s) → entry_in before s.item ≡ o
@@ -103,12 +103,12 @@ line_more before line n place = by (statement_of line) refl place
 
 -- how far a reading has come: these are the entries of the `line` lines so far, and what is wrong with the whole text is wrong with
 -- what follows
-pub record Progress (lines : List (List ℕ)) (entries : List (Option Entry)) (line : ℕ) (behind : List (List ℕ)) : Type 0 where
+pub record Progress (lines : List (List ℕ)) (entries : List (Option Entry)) (line : ℕ) (following : List (List ℕ)) : Type 0 where
   pub before : List (List ℕ)
   pub count : length before ≡ line
   pub there : entries ≡ entries_in before
-  pub same : first_bad_line before behind ≡ first_bad_line [] lines
-  pub whole : before ++ behind ≡ lines
+  pub same : first_bad_line before following ≡ first_bad_line [] lines
+  pub whole : before ++ following ≡ lines
 
 -- no line yet
 pub progress_empty : (lines : List (List ℕ)) (entries : List (Option Entry)) → entries ≡ replicate 47 None → Progress lines entries 0 lines
@@ -116,13 +116,13 @@ unfolding entries_in entry_in
 progress_empty lines entries none = record { before = []; count = refl; there = none ∙ refl; same = refl; whole = refl }
 
 -- one more line
-pub progress_more : (lines : List (List ℕ)) (entries next : List (Option Entry)) (n : ℕ) (behind : List (List ℕ)) (text : List ℕ) (others : List (List ℕ))
-    → behind ≡ text ∷ others → IsLinePlace (statement_of text) → more_by entries (n + 1) (statement_of text) ≡ Ok next
-    → Progress lines entries n behind → Progress lines next (n + 1) others
+pub progress_more : (lines : List (List ℕ)) (entries next : List (Option Entry)) (n : ℕ) (following : List (List ℕ)) (text : List ℕ) (others : List (List ℕ))
+    → following ≡ text ∷ others → IsLinePlace (statement_of text) → more_by entries (n + 1) (statement_of text) ≡ Ok next
+    → Progress lines entries n following → Progress lines next (n + 1) others
 unfolding first_bad_line
-progress_more lines entries next n behind text others cut place step p =
+progress_more lines entries next n following text others cut place step p =
     let made = sym (line_more p.before text (n + 1) place) ∙ ap (λ d. more_by d (n + 1) (statement_of text)) (sym p.there) ∙ step in
-    let fine = or_fault_none (at_line (n + 1)) (fault_behind p.before text) (entries_in (p.before ++ text ∷ [])) next made in
+    let fine = or_fault_none (at_line (n + 1)) (fault_after p.before text) (entries_in (p.before ++ text ∷ [])) next made in
     let here : first_bad_line p.before (text ∷ others) ≡ first_bad_line (p.before ++ text ∷ []) others = rw fine.0 refl in
     record {
       before = p.before ++ text ∷ [];
@@ -133,29 +133,29 @@ progress_more lines entries next n behind text others cut place step p =
     }
 
 -- a line with a fault
-pub progress_fails : (lines : List (List ℕ)) (entries : List (Option Entry)) (n : ℕ) (behind : List (List ℕ)) (text : List ℕ) (others : List (List ℕ)) (fault : RulesFault)
-    → behind ≡ text ∷ others → IsLinePlace (statement_of text) → more_by entries (n + 1) (statement_of text) ≡ Err fault
-    → Progress lines entries n behind → drafted lines ≡ Err fault
+pub progress_fails : (lines : List (List ℕ)) (entries : List (Option Entry)) (n : ℕ) (following : List (List ℕ)) (text : List ℕ) (others : List (List ℕ)) (fault : RulesFault)
+    → following ≡ text ∷ others → IsLinePlace (statement_of text) → more_by entries (n + 1) (statement_of text) ≡ Err fault
+    → Progress lines entries n following → drafted lines ≡ Err fault
 unfolding first_bad_line drafted
-progress_fails lines entries n behind text others fault cut place step p =
+progress_fails lines entries n following text others fault cut place step p =
     let made = sym (line_more p.before text (n + 1) place) ∙ ap (λ d. more_by d (n + 1) (statement_of text)) (sym p.there) ∙ step in
-    let found = or_fault_some (option_map (at_line (n + 1)) (fault_behind p.before text)) (entries_in (p.before ++ text ∷ [])) fault made in
-    let here : option_map (at_line (length p.before + 1)) (fault_behind p.before text) ≡ Some fault = rw p.count found in
+    let found = or_fault_some (option_map (at_line (n + 1)) (fault_after p.before text)) (entries_in (p.before ++ text ∷ [])) fault made in
+    let here : option_map (at_line (length p.before + 1)) (fault_after p.before text) ≡ Some fault = rw p.count found in
     let first : first_bad_line p.before (text ∷ others) ≡ Some fault = rw here refl in
     let whole : first_bad_line [] lines ≡ Some fault = sym p.same ∙ ap (first_bad_line p.before) cut ∙ first in
     rw whole refl
 
 -- no more lines are read than there are
-pub progress_room : (lines : List (List ℕ)) (entries : List (Option Entry)) (n : ℕ) (behind : List (List ℕ)) (text : List ℕ) (others : List (List ℕ))
-    → behind ≡ text ∷ others → Progress lines entries n behind → n < length lines
-progress_room lines entries n behind text others cut p = omega (arith, p.count, ap length cut, ap length p.whole, length-append p.before behind)
+pub progress_room : (lines : List (List ℕ)) (entries : List (Option Entry)) (n : ℕ) (following : List (List ℕ)) (text : List ℕ) (others : List (List ℕ))
+    → following ≡ text ∷ others → Progress lines entries n following → n < length lines
+progress_room lines entries n following text others cut p = omega (arith, p.count, ap length cut, ap length p.whole, length-append p.before following)
 
 -- no more lines
-pub progress_done : (lines : List (List ℕ)) (entries : List (Option Entry)) (n : ℕ) (behind : List (List ℕ)) → behind ≡ [] → Progress lines entries n behind
+pub progress_done : (lines : List (List ℕ)) (entries : List (Option Entry)) (n : ℕ) (following : List (List ℕ)) → following ≡ [] → Progress lines entries n following
     → drafted lines ≡ Ok entries
 unfolding first_bad_line drafted
-progress_done lines entries n behind none p =
-    let all = none_left at_line fault_behind lines p.before behind none p.same p.whole in
+progress_done lines entries n following none p =
+    let all = none_remaining at_line fault_after lines p.before following none p.same p.whole in
     rw all.0 (ap Ok (sym (p.there ∙ ap entries_in all.1)))
 
 -- what a loop over the lines of a text needs

@@ -49,12 +49,12 @@ repeats before (Ok (Some s)) = if is_some (entry_in before s.item) then Some why
 
 -- What is wrong with a line after these lines: it states nothing that can be read, or it is about the item of an earlier
 -- line.
-unfoldable pub fault_behind : List (List ℕ) → List ℕ → Option RulesWhy
-fault_behind before line = repeats before (statement_of line)
+unfoldable pub fault_after : List (List ℕ) → List ℕ → Option RulesWhy
+fault_after before line = repeats before (statement_of line)
 
 -- the first fault of further lines; the lines before them have none, and are numbered from 1
 unfoldable pub first_bad_line : List (List ℕ) → List (List ℕ) → Option RulesFault
-first_bad_line before lines = first_bad at_line fault_behind before lines
+first_bad_line before lines = first_bad at_line fault_after before lines
 
 -- ---- the rules that entries state
 
@@ -135,7 +135,7 @@ Gives (Err fault) meaning = meaning ≡ Err fault
 -- A line is the first with a fault: the lines before it have none, and after them it has this one. Lines are numbered
 -- from 1.
 abbrev pub IsFirstFault : List (List ℕ) → RulesFault → Type 0
-IsFirstFault lines fault = IsFirstBad at_line fault_behind lines fault
+IsFirstFault lines fault = IsFirstBad at_line fault_after lines fault
 
 -- no line has a fault, and this is wrong with the whole
 pub record IsWholeFault (lines : List (List ℕ)) (fault : RulesFault) : Type 0 where
@@ -153,11 +153,11 @@ IsFaultOf text fault =
 pub record IsOnce (lines : List (List ℕ)) (item : ℕ) (stated : Entry) : Type 0 where
   pub before : List (List ℕ)
   pub line : List ℕ
-  pub behind : List (List ℕ)
-  pub whole : before ++ line ∷ behind ≡ lines
+  pub following : List (List ℕ)
+  pub whole : before ++ line ∷ following ≡ lines
   pub states : stated_by item (statement_of line) ≡ Some stated
   pub earlier : entry_in before item ≡ None
-  pub later : entry_in behind item ≡ None
+  pub later : entry_in following item ≡ None
 
 -- each of the 47 items has exactly one line, whose entry is the one that counts
 abbrev pub AreOnce : List (List ℕ) → Type 0

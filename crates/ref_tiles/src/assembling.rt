@@ -71,7 +71,7 @@ fn number_in(entry: Option<Entry>) -> u32
 }
 
 /// The tiles of each kind; none if a number is past all limits.
-#[tactic(auto, using(crate::proofs::PartLimits::many_tiles))]
+#[tactic(auto, using(crate::proofs::PartLimits::count_tiles))]
 fn counts(draft: &Draft) -> Option<Counts>
     ensures counts { IfSome result (λ counts. counts ≡ counts_with draft.now) }
     ensures refused { IfNone result (is_tile_set (counts_with draft.now) ≡ false) }
@@ -87,7 +87,7 @@ fn counts(draft: &Draft) -> Option<Counts>
 }
 
 /// The points of A to Z; none if a number is past all limits.
-#[tactic(auto, using(crate::proofs::PartLimits::many_points))]
+#[tactic(auto, using(crate::proofs::PartLimits::count_points))]
 fn points(draft: &Draft) -> Option<[u8; LETTERS]>
     ensures points { IfSome result (λ points. points ≡ points_with draft.now) }
     ensures refused { IfNone result (are_points (points_with draft.now) ≡ false) }

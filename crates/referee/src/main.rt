@@ -6,9 +6,9 @@
 mod running;
 
 use crate::running::run_program;
+use io_terminals::Guarded;
 use std::io::IsTerminal;
 use std::process::ExitCode;
-use terminals::Guarded;
 
 fn main(rt: HostRuntime) -> ExitCode {
     let watched = rt.stderr().is_terminal();

@@ -1,24 +1,24 @@
 //! What the program does: it parses the command line as a request, carries it out, and says what kept it from finishing.
 
-use answer_commands::{answer_game, board_in_json, check_in_json, rule_on_words};
-use archive_commands::{archive, index};
-use call_stages::Verdict;
 use clap::Error;
 use clap::error::ErrorKind;
-use command_files::{STANDARD_OUTPUT, write};
-use command_line::{
+use cli_archive::{archive, index};
+use cli_args::{
     Asked, GameFiles, GameRequest, PROGRAM_NAME, PairFiles, Request, mistake, parse_arguments,
 };
-use exit_statuses::{Exit, Trouble};
-use game_commands::{board, build, check, convert, judge, tidy, top};
-use lost_inputs::{input_under_pages, lost_input};
+use cli_exits::{Exit, Trouble};
+use cli_files::{STANDARD_OUTPUT, write};
+use cli_overwrites::{input_under_pages, lost_input};
+use cli_replies::{answer_game, board_in_json, check_in_json, rule_on_words};
+use cli_reports::{board, build, check, convert, judge, tidy, top};
+use cli_serve::serve;
+use engine_stages::Verdict;
+use io_watch::Reason;
 use ref_tiles::ENGLISH_TEXT;
-use serve_commands::serve;
-use serve_requests::Task;
+use reply_requests::Task;
 use std::alloc::AllocError;
 use std::rt::Runtime;
 use std::{env, io};
-use watching::Reason;
 
 /// Runs the program on the arguments of its command line. If something keeps it from finishing, standard error says what; `watched`
 /// says whether somebody sees standard error.

@@ -6,24 +6,24 @@ use Rattle.ref_tiles.specs.declared.rulebook.Rules.{Rules}
 use Rattle.gcg_read.specs.declared.events.Event.{Event}
 use Rattle.gcg_read.specs.declared.players.Players.{Players}
 use Rattle.gcg_read.specs.declared.records.Record.{Record}
-use Rattle.event_notes.specs.Unlisted.{letters_in}
-use Rattle.game_sheets.specs.declared.wrong_numbers.WrongNumber.{WrongNumber}
-use Rattle.game_sheets.specs.Auditing.{IsAudited}
-use Rattle.game_sheets.specs.Corrections.{IsCorrection, HavePoints}
-use Rattle.game_sheets.proofs.Fronts.{one_correction}
-use Rattle.game_rows.specs.declared.refusals.Stop.{Stop}
-use Rattle.game_rows.specs.declared.walking.Walk.{Walk}
-use Rattle.game_rows.specs.Numbers.{numbers_in}
-use Rattle.game_rows.specs.Refusals.{EndsAt}
-use Rattle.game_rows.specs.Walks.{IsWalk, GoesThrough}
-use Rattle.game_rows.proofs.WalkLaws.{through_right}
+use Rattle.game_bests.specs.Unlisted.{letters_in}
+use Rattle.game_corrections.specs.declared.wrong_numbers.WrongNumber.{WrongNumber}
+use Rattle.game_corrections.specs.Auditing.{IsAudited}
+use Rattle.game_corrections.specs.Corrections.{IsCorrection, HavePoints}
+use Rattle.game_corrections.proofs.Fronts.{one_correction}
+use Rattle.game_walk.specs.declared.refusals.Stop.{Stop}
+use Rattle.game_walk.specs.declared.walking.Walk.{Walk}
+use Rattle.game_walk.specs.Numbers.{numbers_in}
+use Rattle.game_walk.specs.Refusals.{EndsAt}
+use Rattle.game_walk.specs.Walks.{IsWalk, GoesThrough}
+use Rattle.game_walk.proofs.WalkLaws.{through_right}
 use Rattle.game_deal.specs.Verdicts.{IsGame}
-use Rattle.record_repairs.specs.Remaining.{is_on_line}
-use Rattle.record_repairs.specs.Trying.{IsWritable}
-use Rattle.record_repairs.proofs.Audits.{audited_right, audited_words}
-use Rattle.record_repairs.proofs.WrongLines.{lines_alone}
+use Rattle.repair_single.specs.Remaining.{is_on_line}
+use Rattle.repair_single.specs.Trying.{IsWritable}
+use Rattle.repair_single.proofs.Audits.{audited_right, audited_words}
+use Rattle.repair_single.proofs.WrongLines.{lines_alone}
 use Rattle.repair_answers.specs.declared.numbers_alone.NumbersAlone.{NumbersAlone}
-use Rattle.repair_answers.specs.Unchanged.{IsKnown, AreNumbersAlone, AreLeft}
+use Rattle.repair_answers.specs.Unchanged.{IsKnown, AreNumbersAlone, AreRemaining}
 
 -- ---- a correction that stops, and one that does not
 
@@ -64,8 +64,8 @@ none_game rules list written right is none other writable game =
 
 pub numbers_alone : (rules : Rules) (list : List (List ℕ)) (written right : List Event) (wrong : List WrongNumber) (walk : Walk) (alone : NumbersAlone) → IsCorrection rules list written right
     → HavePoints right → alone.right.items ≡ map numbers_in right → IsKnown alone.is_game rules list right → IsAudited rules list written right wrong → IsWalk rules list written right walk
-    → AreLeft list wrong walk.rows.items alone.remains → AreNumbersAlone rules list written alone
-numbers_alone rules list written right wrong walk alone is points numbers known audited walked left =
+    → AreRemaining list wrong walk.rows.items alone.remains → AreNumbersAlone rules list written alone
+numbers_alone rules list written right wrong walk alone is points numbers known audited walked remaining =
     let writable : IsWritable rules list written right = record { correction = is; points = points } in
     let audit = audited_right rules list written written right right wrong writable is.renumbered audited in
     record {
@@ -73,8 +73,8 @@ numbers_alone rules list written right wrong walk alone is points numbers known 
       correction = writable;
       numbers = numbers;
       game = known;
-      wrong = left.wrong ∙ ap (filter is_on_line) audit.all ∙ lines_alone None written right;
-      unlisted = audited_words rules list written written right right wrong walk (letters_in alone.remains.unlisted.items) writable is.renumbered audit walked left.unlisted;
+      wrong = remaining.wrong ∙ ap (filter is_on_line) audit.all ∙ lines_alone None written right;
+      unlisted = audited_words rules list written written right right wrong walk (letters_in alone.remains.unlisted.items) writable is.renumbered audit walked remaining.unlisted;
     }
 
 -- ---- the record with the numbers that it had

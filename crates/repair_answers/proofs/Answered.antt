@@ -3,8 +3,8 @@ use Rattle.std.proofs.Common.{◌≡◌, ℕ, true, false, List, Option, Some, N
 use Rattle.ref_tiles.specs.declared.rulebook.Rules.{Rules}
 use Rattle.gcg_read.specs.declared.events.Event.{Event}
 use Rattle.gcg_read.specs.declared.faults.ReadFault.{ReadFault}
-use Rattle.game_rows.specs.Walks.{IsWalkOf}
-use Rattle.game_rows.specs.declared.walking.Walk.{Walk}
+use Rattle.game_walk.specs.Walks.{IsWalkOf}
+use Rattle.game_walk.specs.declared.walking.Walk.{Walk}
 use Rattle.game_case.specs.declared.entries.Entry.{Entry}
 use Rattle.game_case.specs.declared.explains.Case.{Case}
 use Rattle.game_case.specs.declared.findings.Finding.{Finding}

@@ -5,7 +5,7 @@ use Rattle.std.specs.List.{list_all, range_with_len}
 use Rattle.std.proofs.lemmas.List.{append-nil, length-append, length-map, map-append}
 use Rattle.std.proofs.lemmas.List.Elements.{All-append}
 use Rattle.repair_answers.specs.Lines.{like_at, is_first, those_like, others_of, IsLine, AddsOne, AddsBy, AddsLine, AreLines}
-use Rattle.repair_answers.specs.declared.evidence.Told.{Told}
+use Rattle.repair_answers.specs.declared.evidence.Reported.{Reported}
 use Rattle.repair_answers.proofs.Ranges.{filter_more, filter_passed, filter_failed, all_more, not_all, first_passed, all_passed}
 
 -- ---- like none before it
@@ -35,7 +35,7 @@ pub none_like : {T : Type 0} (like : T → T → Bool) (items : List T) (first :
 none_like like items first = let none : 0 ≡ first + 1 - (first + 1) = omega arith in ap (λ n. filter (like_at like items first) (range_with_len (first + 1) n)) none
 
 like_steps : {T : Type 0} (like : T → T → Bool) (items : List T) (first end : ℕ) → first < end → like_to like items first (end + 1) ≡ filter (like_at like items first) (range_with_len (first + 1) (end - (first + 1) + 1))
-like_steps like items first end behind =
+like_steps like items first end following =
     let more : end + 1 - (first + 1) ≡ end - (first + 1) + 1 = omega arith in ap (λ n. filter (like_at like items first) (range_with_len (first + 1) n)) more
 
 pub one_added : {T : Type 0} (like : T → T → Bool) (items : List T) (first other : ℕ) (old new : List ℕ) → like_at like items first other ≡ true → new ≡ old ++ other ∷ [] → new ≡ old ++ those_like like items first other
@@ -46,19 +46,19 @@ none_added like items first other old is = sym (ap (λ b. old ++ (if b then (oth
 
 pub like_more : {T : Type 0} (like : T → T → Bool) (items : List T) (first end : ℕ) (old new : List ℕ) → first < end → old ≡ like_to like items first end → new ≡ old ++ those_like like items first end
     → new ≡ like_to like items first (end + 1)
-like_more like items first end old new behind so_far more =
-    more ∙ ap (λ (ns : List ℕ). ns ++ those_like like items first end) so_far ∙ sym (filter_more (like_at like items first) (first + 1) (end - (first + 1)) end (omega (arith, behind)))
-    ∙ sym (like_steps like items first end behind)
+like_more like items first end old new following so_far more =
+    more ∙ ap (λ (ns : List ℕ). ns ++ those_like like items first end) so_far ∙ sym (filter_more (like_at like items first) (first + 1) (end - (first + 1)) end (omega (arith, following)))
+    ∙ sym (like_steps like items first end following)
 
 pub all_like : {T : Type 0} (like : T → T → Bool) (items : List T) (first end : ℕ) (others : List ℕ) → others ≡ like_to like items first end → end ≡ length items → others ≡ others_of like items first
 all_like like items first end others so_far is = subst (λ n. others ≡ like_to like items first n) is so_far
 
 -- ---- a line more, or none
 
-pub adds_none : {T : Type 0} (like : T → T → Bool) (items : List T) (index : ℕ) (lines : List Told) → is_first like items index ≡ false → AddsLine like items index lines lines
+pub adds_none : {T : Type 0} (like : T → T → Bool) (items : List T) (index : ℕ) (lines : List Reported) → is_first like items index ≡ false → AddsLine like items index lines lines
 adds_none like items index lines none = subst (λ b. AddsBy b like items index lines lines) (sym none) refl
 
-pub adds_one : {T : Type 0} (like : T → T → Bool) (items : List T) (index : ℕ) (others : List ℕ) (line : Told) (old new : List Told) → is_first like items index ≡ true → others ≡ others_of like items index
+pub adds_one : {T : Type 0} (like : T → T → Bool) (items : List T) (index : ℕ) (others : List ℕ) (line : Reported) (old new : List Reported) → is_first like items index ≡ true → others ≡ others_of like items index
     → line.first ≡ index → line.others.items ≡ others → new ≡ old ++ line ∷ [] → AddsLine like items index old new
 adds_one like items index others line old new first are at with_others added =
     let is : IsLine like items line = with_others ∙ are ∙ ap (others_of like items) (sym at) in
@@ -67,58 +67,58 @@ adds_one like items index others line old new first are at with_others added =
 
 -- ---- the lines of the items before a number
 
-pub record AreLinesTo {T : Type 0} (like : T → T → Bool) (items : List T) (most index : ℕ) (lines : List Told) : Type 0 where
-  pub firsts : map (λ (line : Told). line.first) lines ≡ filter (is_first like items) (range_with_len 0 index)
+pub record AreLinesTo {T : Type 0} (like : T → T → Bool) (items : List T) (most index : ℕ) (lines : List Reported) : Type 0 where
+  pub firsts : map (λ (line : Reported). line.first) lines ≡ filter (is_first like items) (range_with_len 0 index)
   pub each : All (IsLine like items) lines
   pub few : length lines ≤ most
 
 pub no_lines : {T : Type 0} (like : T → T → Bool) (items : List T) (most : ℕ) → AreLinesTo like items most 0 []
 no_lines like items most = record { firsts = refl; each = λ k d within. absurd (omega (arith, within)); few = omega arith }
 
-only_line : {T : Type 0} (like : T → T → Bool) (items : List T) (line : Told) → IsLine like items line → All (IsLine like items) (line ∷ [])
+only_line : {T : Type 0} (like : T → T → Bool) (items : List T) (line : Reported) → IsLine like items line → All (IsLine like items) (line ∷ [])
 only_line like items line is zero d within = is
 only_line like items line is (suc k) d within = absurd (omega (arith, within))
 
-next_line : {T : Type 0} (like : T → T → Bool) (items : List T) (most index : ℕ) (old new : List Told) → AreLinesTo like items most index old → length old < most → is_first like items index ≡ true
+next_line : {T : Type 0} (like : T → T → Bool) (items : List T) (most index : ℕ) (old new : List Reported) → AreLinesTo like items most index old → length old < most → is_first like items index ≡ true
     → AddsOne like items index old new → AreLinesTo like items most (index + 1) new
 next_line like items most index old new so_far room first adds =
     let line = adds.line in
-    let long : length new ≡ length old + 1 = ap (λ (ls : List Told). length ls) adds.added ∙ simp length-append in
+    let long : length new ≡ length old + 1 = ap (λ (ls : List Reported). length ls) adds.added ∙ simp length-append in
     record {
-      firsts = ap (map (λ (l : Told). l.first)) adds.added ∙ map-append (λ (l : Told). l.first) old (line ∷ [])
+      firsts = ap (map (λ (l : Reported). l.first)) adds.added ∙ map-append (λ (l : Reported). l.first) old (line ∷ [])
           ∙ ap (λ (ns : List ℕ). ns ++ line.first ∷ []) so_far.firsts ∙ ap (λ n. filter (is_first like items) (range_with_len 0 index) ++ n ∷ []) adds.first
           ∙ sym (filter_passed (is_first like items) 0 index index (omega arith) first);
       each = subst (All (IsLine like items)) (sym adds.added) (All-append (IsLine like items) old (line ∷ []) so_far.each (only_line like items line adds.is));
       few = omega arith;
     }
 
-no_line : {T : Type 0} (like : T → T → Bool) (items : List T) (most index : ℕ) (old new : List Told) → AreLinesTo like items most index old → is_first like items index ≡ false → new ≡ old → AreLinesTo like items most (index + 1) new
+no_line : {T : Type 0} (like : T → T → Bool) (items : List T) (most index : ℕ) (old new : List Reported) → AreLinesTo like items most index old → is_first like items index ≡ false → new ≡ old → AreLinesTo like items most (index + 1) new
 no_line like items most index old new so_far none same =
     subst (AreLinesTo like items most (index + 1)) (sym same)
     (record { firsts = so_far.firsts ∙ sym (filter_failed (is_first like items) 0 index index (omega arith) none); each = so_far.each; few = so_far.few })
 
-lines_by : {T : Type 0} (like : T → T → Bool) (items : List T) (most index : ℕ) (old new : List Told) (b : Bool) → is_first like items index ≡ b → AreLinesTo like items most index old → length old < most
+lines_by : {T : Type 0} (like : T → T → Bool) (items : List T) (most index : ℕ) (old new : List Reported) (b : Bool) → is_first like items index ≡ b → AreLinesTo like items most index old → length old < most
     → AddsBy b like items index old new → AreLinesTo like items most (index + 1) new
 lines_by like items most index old new true first so_far room adds = next_line like items most index old new so_far room first adds
 lines_by like items most index old new false first so_far room same = no_line like items most index old new so_far first same
 
-pub lines_more : {T : Type 0} (like : T → T → Bool) (items : List T) (most index : ℕ) (old new : List Told) → AreLinesTo like items most index old → length old < most → AddsLine like items index old new
+pub lines_more : {T : Type 0} (like : T → T → Bool) (items : List T) (most index : ℕ) (old new : List Reported) → AreLinesTo like items most index old → length old < most → AddsLine like items index old new
     → AreLinesTo like items most (index + 1) new
 lines_more like items most index old new so_far room adds =
     lines_by like items most index old new (is_first like items index) refl so_far room adds
 
-pub enough_lines : {T : Type 0} (like : T → T → Bool) (items : List T) (most index : ℕ) (lines : List Told) → AreLinesTo like items most index lines → index ≤ length items → length lines ≡ most → AreLines like items most lines
+pub enough_lines : {T : Type 0} (like : T → T → Bool) (items : List T) (most index : ℕ) (lines : List Reported) → AreLinesTo like items most index lines → index ≤ length items → length lines ≡ most → AreLines like items most lines
 enough_lines like items most index lines so_far within many =
     record {
-      firsts = first_passed (is_first like items) index (length items) most (map (λ (l : Told). l.first) lines) within so_far.firsts (length-map lines (λ (l : Told). l.first) ∙ many);
+      firsts = first_passed (is_first like items) index (length items) most (map (λ (l : Reported). l.first) lines) within so_far.firsts (length-map lines (λ (l : Reported). l.first) ∙ many);
       each = so_far.each;
     }
 
-pub all_lines : {T : Type 0} (like : T → T → Bool) (items : List T) (most index : ℕ) (lines : List Told) → AreLinesTo like items most index lines → index ≡ length items → AreLines like items most lines
+pub all_lines : {T : Type 0} (like : T → T → Bool) (items : List T) (most index : ℕ) (lines : List Reported) → AreLinesTo like items most index lines → index ≡ length items → AreLines like items most lines
 all_lines like items most index lines so_far is =
     let whole = subst (λ n. AreLinesTo like items most n lines) is so_far in
     let few = so_far.few in
     record {
-      firsts = all_passed (is_first like items) (length items) most (map (λ (l : Told). l.first) lines) whole.firsts (subst (λ n. n ≤ most) (sym (length-map lines (λ (l : Told). l.first))) few);
+      firsts = all_passed (is_first like items) (length items) most (map (λ (l : Reported). l.first) lines) whole.firsts (subst (λ n. n ≤ most) (sym (length-map lines (λ (l : Reported). l.first))) few);
       each = so_far.each;
     }

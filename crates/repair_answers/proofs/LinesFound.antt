@@ -2,7 +2,7 @@
 use Rattle.std.proofs.Common.{◌≡◌, ℕ, ◌+◌, ◌==◌, Bool, true, false, List, [], ◌∷◌, ◌++◌, length, take, slice_get, Some, sym, ap, ◌∙◌}
 use Rattle.std.specs.Prelude.{if◌then◌else◌}
 use Rattle.std.specs.List.{count_by, flat_map, range_with_len}
-use Rattle.sheet_slips.proofs.Listed.{one_more}
+use Rattle.repair_sheets.proofs.Listed.{one_more}
 use Rattle.repair_answers.specs.BadRecords.{costs, line_of, lines_at, all_lines}
 use Rattle.repair_answers.specs.declared.bad_records.SameCost.{SameCost}
 use Rattle.repair_answers.specs.declared.sheet_repair.SheetRepair.{SheetRepair}

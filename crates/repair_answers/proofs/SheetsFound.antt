@@ -11,11 +11,11 @@ use Rattle.std.proofs.lemmas.List.Elements.{All-append, All-contains, All-weaker
 use Rattle.std.proofs.lemmas.List.Sorted.{All-permutation, Contains-permutation}
 use Rattle.ref_tiles.specs.declared.rulebook.Rules.{Rules}
 use Rattle.gcg_read.specs.declared.events.Event.{Event}
-use Rattle.record_repairs.proofs.AllOf.{pairs_joined}
-use Rattle.record_repairs.proofs.Sorting.{sorted_pairs}
-use Rattle.game_rows.specs.declared.walking.Walk.{Walk}
-use Rattle.sheet_slips.specs.declared.slips.SheetSlip.{SheetSlip}
-use Rattle.sheet_slips.specs.Listing.{sheet_slips}
+use Rattle.repair_single.proofs.AllOf.{pairs_joined}
+use Rattle.repair_single.proofs.Sorting.{sorted_pairs}
+use Rattle.game_walk.specs.declared.walking.Walk.{Walk}
+use Rattle.repair_sheets.specs.declared.slips.SheetSlip.{SheetSlip}
+use Rattle.repair_sheets.specs.Listing.{sheet_slips}
 use Rattle.repair_answers.specs.Sheets.{slip_places, slips_tried, sheet_room, IsGameWithout, IsSheetRepair, is_sheet_ahead, HasNumber, AreSheetRepairs, IsTrial, AreFoundTo}
 use Rattle.repair_answers.specs.declared.numbers_alone.NumbersAlone.{NumbersAlone}
 use Rattle.repair_answers.specs.declared.sheet_repair.SheetRepair.{SheetRepair}
@@ -73,8 +73,8 @@ none_more rules list text written room k slips found s at none so_far =
     by number other right less there game (inl before) = so_far.all number other right before there game
     by number other right less there game (inr here) = absurd (none_here rules list text written room k slips s other right number here less at there none game)
 
-has_left : (xs ys : List SheetRepair) (number : ℕ) → HasNumber xs number → HasNumber (xs ++ ys) number
-has_left xs ys number is = record { repair = is.repair; among = Contains-append_left xs ys is.repair is.among; same = is.same }
+has_remaining : (xs ys : List SheetRepair) (number : ℕ) → HasNumber xs number → HasNumber (xs ++ ys) number
+has_remaining xs ys number is = record { repair = is.repair; among = Contains-append_left xs ys is.repair is.among; same = is.same }
 
 pub one_more : (rules : Rules) (list : List (List ℕ)) (text : List ℕ) (written : List Event) (room k : ℕ) (slips : List SheetSlip) (found : List SheetRepair) (s : SheetSlip) (r : SheetRepair)
     → slice_get slips k ≡ Some s → IsTrial rules list text written room k s (Some r) → AreFoundTo rules list text written room slips k found
@@ -96,7 +96,7 @@ one_more rules list text written room k slips found s r at is so_far =
   where
     by : (number : ℕ) (other : SheetSlip) (right : List Event) → number < k + 1 → slice_get slips number ≡ Some other → IsGameWithout rules list text written room other right
         → (number < k) ⊎ (k ≤ number) → HasNumber (found ++ r ∷ []) number
-    by number other right less there game (inl before) = has_left found (r ∷ []) number (so_far.all number other right before there game)
+    by number other right less there game (inl before) = has_remaining found (r ∷ []) number (so_far.all number other right before there game)
     by number other right less there game (inr here) =
         record { repair = r; among = Contains-append_right found (r ∷ []) r (0, omega arith, refl); same = omega (arith, is.number, here, less) }
 

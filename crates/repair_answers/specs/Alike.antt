@@ -3,22 +3,22 @@ use Rattle.std.specs.Prelude.{ℕ, ◌==◌, ◌&&◌, Bool, true, false, length
 use Rattle.ref_tiles.specs.declared.kinds.Kind.{Kind}
 use Rattle.ref_tiles.specs.Kinds.{kind_byte}
 use Rattle.gcg_read.specs.Players.{same_seat}
-use Rattle.record_changes.specs.declared.slips.Slip.{Slip}
-use Rattle.record_changes.specs.declared.slips.Slip.TheVariants as slip
-use Rattle.record_changes.specs.declared.slips.SpellingSlip.{SpellingSlip}
-use Rattle.record_changes.specs.declared.slips.SpellingSlip.TheVariants as spelling
-use Rattle.record_changes.specs.declared.slips.TileSlip.{TileSlip}
-use Rattle.record_changes.specs.declared.slips.TileSlip.TheVariants as tile
-use Rattle.record_changes.specs.declared.slips.TilesOf.{TilesOf}
-use Rattle.record_changes.specs.declared.slips.TilesOf.TheVariants as tiles
-use Rattle.record_changes.specs.declared.slips.Misread.{Misread}
-use Rattle.record_changes.specs.declared.slips.Misread.TheVariants as misread
-use Rattle.record_changes.specs.declared.slips.CodeSlip.{CodeSlip}
-use Rattle.record_changes.specs.declared.slips.CodeSlip.TheVariants as code
-use Rattle.record_changes.specs.declared.slips.MissingLine.{MissingLine}
-use Rattle.record_changes.specs.declared.slips.MissingLine.TheVariants as missing
-use Rattle.record_repairs.specs.Costs.{costs}
-use Rattle.record_repairs.specs.declared.repair.Repair.{Repair}
+use Rattle.repair_changes.specs.declared.slips.Slip.{Slip}
+use Rattle.repair_changes.specs.declared.slips.Slip.TheVariants as slip
+use Rattle.repair_changes.specs.declared.slips.SpellingSlip.{SpellingSlip}
+use Rattle.repair_changes.specs.declared.slips.SpellingSlip.TheVariants as spelling
+use Rattle.repair_changes.specs.declared.slips.TileSlip.{TileSlip}
+use Rattle.repair_changes.specs.declared.slips.TileSlip.TheVariants as tile
+use Rattle.repair_changes.specs.declared.slips.TilesOf.{TilesOf}
+use Rattle.repair_changes.specs.declared.slips.TilesOf.TheVariants as tiles
+use Rattle.repair_changes.specs.declared.slips.Misread.{Misread}
+use Rattle.repair_changes.specs.declared.slips.Misread.TheVariants as misread
+use Rattle.repair_changes.specs.declared.slips.CodeSlip.{CodeSlip}
+use Rattle.repair_changes.specs.declared.slips.CodeSlip.TheVariants as code
+use Rattle.repair_changes.specs.declared.slips.MissingLine.{MissingLine}
+use Rattle.repair_changes.specs.declared.slips.MissingLine.TheVariants as missing
+use Rattle.repair_single.specs.Costs.{costs}
+use Rattle.repair_single.specs.declared.repair.Repair.{Repair}
 use Rattle.repair_pairs.specs.declared.found.Pair.{Pair}
 
 -- one kind of tile

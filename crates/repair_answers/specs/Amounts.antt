@@ -4,20 +4,20 @@ use Rattle.ref_tiles.specs.declared.rulebook.Rules.{Rules}
 use Rattle.gcg_read.specs.declared.events.Event.{Event}
 use Rattle.gcg_read.specs.declared.records.Record.{Record}
 use Rattle.gcg_read.specs.Records.{record_of}
-use Rattle.game_rows.specs.declared.walking.Walk.{Walk}
-use Rattle.game_rows.specs.Walks.{IsWalkOf}
-use Rattle.play_changes.specs.PlayChanges.{ArePlayChanges}
-use Rattle.record_changes.specs.declared.slips.Change.{Change}
-use Rattle.record_changes.specs.declared.slips.Slip.{Slip}
-use Rattle.record_changes.specs.declared.slips.Slip.TheVariants as slip
-use Rattle.record_changes.specs.declared.slips.MissingLine.TheVariants as line
-use Rattle.record_changes.specs.declared.slips.MissingLine.{MissingLine}
-use Rattle.record_repairs.specs.declared.listed.Listed.{Listed}
-use Rattle.record_repairs.specs.declared.repair.Repair.{Repair}
+use Rattle.game_walk.specs.declared.walking.Walk.{Walk}
+use Rattle.game_walk.specs.Walks.{IsWalkOf}
+use Rattle.repair_plays.specs.PlayChanges.{ArePlayChanges}
+use Rattle.repair_changes.specs.declared.slips.Change.{Change}
+use Rattle.repair_changes.specs.declared.slips.Slip.{Slip}
+use Rattle.repair_changes.specs.declared.slips.Slip.TheVariants as slip
+use Rattle.repair_changes.specs.declared.slips.MissingLine.TheVariants as line
+use Rattle.repair_changes.specs.declared.slips.MissingLine.{MissingLine}
+use Rattle.repair_single.specs.declared.listed.Listed.{Listed}
+use Rattle.repair_single.specs.declared.repair.Repair.{Repair}
 use Rattle.repair_answers.specs.Alike.{cost_in}
 use Rattle.repair_answers.specs.Answers.{below_of}
 use Rattle.repair_answers.specs.Choices.{alone_cost}
-use Rattle.repair_answers.specs.Trades.{AreTold}
+use Rattle.repair_answers.specs.Trades.{AreReported}
 use Rattle.repair_answers.specs.Unchanged.{IsUnchanged}
 use Rattle.repair_answers.specs.declared.numbers_alone.NumbersAlone.{NumbersAlone}
 use Rattle.repair_answers.specs.declared.sheet_amounts.SheetAmount.{SheetAmount}
@@ -43,7 +43,7 @@ abbrev pub explains : Option NumbersAlone → Repair → Bool
 explains alone repair = is_of_amount repair.listed.change.slip && costs_less alone repair
 
 -- the first of some repairs, if it is such a one
-abbrev pub IsAmountOf : Option NumbersAlone → (told : List Repair) → Option Repair → Type 0
+abbrev pub IsAmountOf : Option NumbersAlone → (reported : List Repair) → Option Repair → Type 0
 IsAmountOf alone [] amount = amount ≡ None
 IsAmountOf alone (first ∷ rest) amount = amount ≡ (if explains alone first then Some first else None)
 
@@ -56,11 +56,11 @@ pub record IsAmount (rules : Rules) (list : List (List ℕ)) (written : List Eve
   pub walked : IsWalkOf rules list written walk
   pub plays : List Change
   pub are_plays : ArePlayChanges written walk plays
-  pub told : List Repair
-  pub left : List Listed
+  pub reported : List Repair
+  pub remaining : List Listed
   pub from : ℕ
-  pub repairs : AreTold rules list written numbers plays (below_of numbers) from 1 told left
-  pub chosen : IsAmountOf numbers told amount
+  pub repairs : AreReported rules list written numbers plays (below_of numbers) from 1 reported remaining
+  pub chosen : IsAmountOf numbers reported amount
 
 -- that of a record, with the record
 abbrev pub IsAmountOfRecord : Rules → (list : List (List ℕ)) → Record → Option SheetAmount → Type 0

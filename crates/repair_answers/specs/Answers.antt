@@ -4,21 +4,21 @@ use Rattle.std.specs.Option.{option_map}
 use Rattle.ref_tiles.specs.declared.rulebook.Rules.{Rules}
 use Rattle.gcg_read.specs.declared.events.Event.{Event}
 use Rattle.gcg_read.specs.declared.faults.ReadFault.{ReadFault}
-use Rattle.game_rows.specs.declared.walking.Walk.{Walk}
+use Rattle.game_walk.specs.declared.walking.Walk.{Walk}
 use Rattle.game_case.specs.declared.entries.Entry.{Entry}
 use Rattle.game_case.specs.declared.explains.Case.{Case}
 use Rattle.game_case.specs.declared.findings.Finding.{Finding}
 use Rattle.game_case.specs.declared.findings.Finding.TheVariants as finding
 use Rattle.game_case.specs.Explaining.{case_verdict}
-use Rattle.play_changes.specs.PlayChanges.{ArePlayChanges}
+use Rattle.repair_plays.specs.PlayChanges.{ArePlayChanges}
 use Rattle.repair_pairs.specs.Pairs.{ArePairs}
 use Rattle.repair_answers.specs.Alike.{is_like, are_like_pairs}
 use Rattle.repair_answers.specs.BadRecords.{RepairsOfLine}
 use Rattle.repair_answers.specs.Chains.{IsChainOf}
 use Rattle.repair_answers.specs.Lines.{AreLines, before_numbers}
-use Rattle.repair_answers.specs.Tried.{many_walked, many_untried, many_changes}
+use Rattle.repair_answers.specs.Tried.{count_walked, count_untried, count_changes}
 use Rattle.repair_answers.specs.Sheets.{sheet_room, slips_tried, AreSheetRepairs}
-use Rattle.repair_answers.specs.Trades.{AreTold}
+use Rattle.repair_answers.specs.Trades.{AreReported}
 use Rattle.repair_answers.specs.Unchanged.{IsUnchanged}
 use Rattle.repair_answers.specs.declared.numbers_alone.NumbersAlone.{NumbersAlone}
 use Rattle.repair_answers.specs.declared.answers.Faulty.{Faulty}
@@ -35,15 +35,15 @@ below_of alone = option_map (λ (a : NumbersAlone). length a.remains.wrong.items
 pub record RepairsIn (rules : Rules) (list : List (List ℕ)) (text : List ℕ) (written : List Event) (walk : Walk) (most : ℕ) (f : Faulty) : Type 0 where
   pub alone : IsUnchanged rules list written f.alone
   pub plays : ArePlayChanges written walk f.plays.items
-  pub repairs : AreTold rules list written f.alone f.plays.items (below_of f.alone) f.found.from (27 * most) f.found.told.items f.found.left.items
-  pub lines : AreLines is_like f.found.told.items most f.lines.items
-  pub before : f.before_numbers ≡ before_numbers f.alone f.found.told.items f.lines.items
-  pub pairs : ArePairs rules list written f.found.told.items (27 * most) f.pairs
-  pub pair_lines : AreLines are_like_pairs f.pairs.told.items most f.pair_lines.items
+  pub repairs : AreReported rules list written f.alone f.plays.items (below_of f.alone) f.found.from (27 * most) f.found.reported.items f.found.remaining.items
+  pub lines : AreLines is_like f.found.reported.items most f.lines.items
+  pub before : f.before_numbers ≡ before_numbers f.alone f.found.reported.items f.lines.items
+  pub pairs : ArePairs rules list written f.found.reported.items (27 * most) f.pairs
+  pub pair_lines : AreLines are_like_pairs f.pairs.reported.items most f.pair_lines.items
   pub sheets : AreSheetRepairs rules list text written (sheet_room f.alone) (slips_tried text written walk) f.sheets.items
-  pub all : many_walked rules written walk * length written ≤ 4000000 → f.found.from ≡ 0
-  pub untried : f.untried ≡ many_untried rules written walk f.found.from
-  pub changes : f.changes ≡ many_changes rules written walk f.plays.items
+  pub all : count_walked rules written walk * length written ≤ 4000000 → f.found.from ≡ 0
+  pub untried : f.untried ≡ count_untried rules written walk f.found.from
+  pub changes : f.changes ≡ count_changes rules written walk f.plays.items
   pub tried : f.tried ≡ f.changes - f.untried
 
 abbrev pub is_illegal : Finding → Bool

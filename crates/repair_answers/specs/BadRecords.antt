@@ -4,7 +4,7 @@ use Rattle.std.specs.List.{count_by, flat_map, range_with_len}
 use Rattle.ref_tiles.specs.declared.rulebook.Rules.{Rules}
 use Rattle.gcg_read.specs.declared.faults.ReadFault.{ReadFault}
 use Rattle.game_case.specs.declared.entries.Entry.{Entry}
-use Rattle.sheet_slips.specs.BadListing.{bad_slips}
+use Rattle.repair_sheets.specs.BadListing.{bad_slips}
 use Rattle.repair_answers.specs.Sheets.{AreSheetRepairs}
 use Rattle.repair_answers.specs.declared.bad_records.LineRepairs.{LineRepairs}
 use Rattle.repair_answers.specs.declared.bad_records.SameCost.{SameCost}

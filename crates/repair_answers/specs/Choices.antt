@@ -1,16 +1,16 @@
 -- Whether one repair is to be chosen, or the record with only its numbers corrected.
 use Rattle.std.specs.Prelude.{◌≡◌, ◌⊎◌, ⊤, ℕ, ◌+◌, ◌*◌, ◌<◌, ◌≤◌, ◌==◌, ◌&&◌, Bool, true, false, List, [], ◌∷◌, All, length, slice_get, Option, Some, None}
 use Rattle.gcg_read.specs.declared.events.Event.{Event}
-use Rattle.record_changes.specs.declared.slips.Slip.{Slip}
-use Rattle.record_changes.specs.declared.slips.Slip.TheVariants as slip
-use Rattle.record_changes.specs.declared.slips.TileSlip.{TileSlip}
-use Rattle.record_changes.specs.declared.slips.TileSlip.TheVariants as tile
-use Rattle.record_changes.specs.declared.slips.TilesOf.TheVariants as tiles_of
-use Rattle.record_repairs.specs.declared.listed.Listed.{Listed}
-use Rattle.record_repairs.specs.declared.repair.Repair.{Repair}
+use Rattle.repair_changes.specs.declared.slips.Slip.{Slip}
+use Rattle.repair_changes.specs.declared.slips.Slip.TheVariants as slip
+use Rattle.repair_changes.specs.declared.slips.TileSlip.{TileSlip}
+use Rattle.repair_changes.specs.declared.slips.TileSlip.TheVariants as tile
+use Rattle.repair_changes.specs.declared.slips.TilesOf.TheVariants as tiles_of
+use Rattle.repair_single.specs.declared.listed.Listed.{Listed}
+use Rattle.repair_single.specs.declared.repair.Repair.{Repair}
 use Rattle.repair_pairs.specs.declared.found.Pair.{Pair}
-use Rattle.sheet_slips.specs.declared.slips.SheetSlip.{SheetSlip}
-use Rattle.sheet_slips.specs.declared.slips.SheetSlip.TheVariants as sheet
+use Rattle.repair_sheets.specs.declared.slips.SheetSlip.{SheetSlip}
+use Rattle.repair_sheets.specs.declared.slips.SheetSlip.TheVariants as sheet
 use Rattle.repair_answers.specs.Alike.{same_tile, cost_in}
 use Rattle.repair_answers.specs.declared.numbers_alone.NumbersAlone.{NumbersAlone}
 use Rattle.repair_answers.specs.declared.sheet_repair.SheetRepair.{SheetRepair}
@@ -43,12 +43,12 @@ abbrev pub IsAheadOf : (first other : Repair) → Type 0
 IsAheadOf first other = (says_less first other ≡ true) ⊎ IsFarAhead first other
 
 -- the first of them is a repair that is ahead of the others
-abbrev pub IsFirst : (told : List Repair) → Repair → Type 0
+abbrev pub IsFirst : (reported : List Repair) → Repair → Type 0
 IsFirst [] r = ⊥
 IsFirst (first ∷ rest) r = (r ≡ first) × All (IsAheadOf first) rest
 
 -- the first is not ahead of all others
-abbrev pub AreClose : (told : List Repair) → Type 0
+abbrev pub AreClose : (reported : List Repair) → Type 0
 AreClose [] = ⊥
 AreClose (first ∷ rest) = All (IsAheadOf first) rest → ⊥
 
@@ -67,7 +67,7 @@ IsAheadOfNumbers None repair = ⊤
 IsAheadOfNumbers (Some alone) repair = cost_in repair + 5 ≤ alone_cost alone
 
 -- correcting only the numbers is ahead of the first of some repairs, and of the cheapest of some pairs
-abbrev pub LeadsRepairs : NumbersAlone → (told : List Repair) → Type 0
+abbrev pub LeadsRepairs : NumbersAlone → (reported : List Repair) → Type 0
 LeadsRepairs alone [] = ⊤
 LeadsRepairs alone (first ∷ rest) = alone_cost alone + 5 ≤ cost_in first
 
@@ -75,9 +75,9 @@ abbrev pub LeadsPairs : NumbersAlone → (pairs : List Pair) → Type 0
 LeadsPairs alone [] = ⊤
 LeadsPairs alone (pair ∷ rest) = alone_cost alone + 5 ≤ pair.cost
 
-abbrev pub Lead : Option NumbersAlone → (told : List Repair) → (pairs : List Pair) → Type 0
-Lead None told pairs = ⊥
-Lead (Some alone) told pairs = LeadsRepairs alone told × LeadsPairs alone pairs
+abbrev pub Lead : Option NumbersAlone → (reported : List Repair) → (pairs : List Pair) → Type 0
+Lead None reported pairs = ⊥
+Lead (Some alone) reported pairs = LeadsRepairs alone reported × LeadsPairs alone pairs
 
 -- whether the record is known to be a game with only its numbers corrected
 abbrev pub IsGameAlone : Option NumbersAlone → (known : Bool) → Type 0
@@ -125,60 +125,60 @@ AreNumbersBelow None sheets = ⊥
 AreNumbersBelow (Some alone) sheets = IsFarBelowSheets (alone_cost alone) sheets
 
 -- a slip of the whole sheet is ahead of others, of all repairs, of two changes and of correcting only the numbers
-abbrev pub IsSheetAhead : SheetRepair → (others : List SheetRepair) → (told : List Repair) → (pairs : List Pair) → Option NumbersAlone → Type 0
-IsSheetAhead s others told pairs alone =
-    IsFarBelowSheets s.cost others × All (IsAheadOfRepair s) told × IsFarBelowPairs s.cost pairs × IsFarBelowNumbers s.cost alone
+abbrev pub IsSheetAhead : SheetRepair → (others : List SheetRepair) → (reported : List Repair) → (pairs : List Pair) → Option NumbersAlone → Type 0
+IsSheetAhead s others reported pairs alone =
+    IsFarBelowSheets s.cost others × All (IsAheadOfRepair s) reported × IsFarBelowPairs s.cost pairs × IsFarBelowNumbers s.cost alone
 
 -- the first of some slips of the whole sheet is ahead of all else
-abbrev pub IsSheetFirst : (told : List Repair) → (pairs : List Pair) → Option NumbersAlone → (sheets : List SheetRepair) → SheetRepair → Type 0
-IsSheetFirst told pairs alone [] s = ⊥
-IsSheetFirst told pairs alone (first ∷ rest) s = (s ≡ first) × IsSheetAhead first rest told pairs alone
+abbrev pub IsSheetFirst : (reported : List Repair) → (pairs : List Pair) → Option NumbersAlone → (sheets : List SheetRepair) → SheetRepair → Type 0
+IsSheetFirst reported pairs alone [] s = ⊥
+IsSheetFirst reported pairs alone (first ∷ rest) s = (s ≡ first) × IsSheetAhead first rest reported pairs alone
 
 -- it is ahead of all of them, it is known to make a game, and every number is right without the slip
-abbrev pub IsSheetChosen : (told : List Repair) → (pairs : List Pair) → Option NumbersAlone → (sheets : List SheetRepair) → SheetRepair → Type 0
-IsSheetChosen told pairs alone sheets s = IsSheetFirst told pairs alone sheets s × (s.alone.is_game ≡ true) × (s.alone.remains.wrong.items ≡ [])
+abbrev pub IsSheetChosen : (reported : List Repair) → (pairs : List Pair) → Option NumbersAlone → (sheets : List SheetRepair) → SheetRepair → Type 0
+IsSheetChosen reported pairs alone sheets s = IsSheetFirst reported pairs alone sheets s × (s.alone.is_game ≡ true) × (s.alone.remains.wrong.items ≡ [])
 
-abbrev pub IsNoneChosen : (told : List Repair) → (pairs : List Pair) → Option NumbersAlone → (sheets : List SheetRepair) → Type 0
-IsNoneChosen told pairs alone sheets = (s : SheetRepair) → IsSheetChosen told pairs alone sheets s → ⊥
+abbrev pub IsNoneChosen : (reported : List Repair) → (pairs : List Pair) → Option NumbersAlone → (sheets : List SheetRepair) → Type 0
+IsNoneChosen reported pairs alone sheets = (s : SheetRepair) → IsSheetChosen reported pairs alone sheets s → ⊥
 
 -- it is ahead of all of them, and it is not known whether it makes a game
-abbrev pub IsSheetOpen : (told : List Repair) → (pairs : List Pair) → Option NumbersAlone → (sheets : List SheetRepair) → Type 0
-IsSheetOpen told pairs alone [] = ⊥
-IsSheetOpen told pairs alone (first ∷ rest) = IsSheetAhead first rest told pairs alone × (first.alone.is_game ≡ false)
+abbrev pub IsSheetOpen : (reported : List Repair) → (pairs : List Pair) → Option NumbersAlone → (sheets : List SheetRepair) → Type 0
+IsSheetOpen reported pairs alone [] = ⊥
+IsSheetOpen reported pairs alone (first ∷ rest) = IsSheetAhead first rest reported pairs alone × (first.alone.is_game ≡ false)
 
 -- a repair that is the first and ahead of the others is not ahead of the slips of the whole sheet
-abbrev pub IsNoneBelow : (told : List Repair) → (sheets : List SheetRepair) → Type 0
-IsNoneBelow told sheets = (r : Repair) → IsFirst told r → IsFarBelowSheets (cost_in r) sheets → ⊥
+abbrev pub IsNoneBelow : (reported : List Repair) → (sheets : List SheetRepair) → Type 0
+IsNoneBelow reported sheets = (r : Repair) → IsFirst reported r → IsFarBelowSheets (cost_in r) sheets → ⊥
 
 -- ---- the choice
 
 -- Two changes together cost less than the first repair; or there is no repair, and correcting only the numbers is not ahead of two changes.
-abbrev pub IsPairAhead : (told : List Repair) → (pairs : List Pair) → Option NumbersAlone → Type 0
+abbrev pub IsPairAhead : (reported : List Repair) → (pairs : List Pair) → Option NumbersAlone → Type 0
 IsPairAhead [] pairs alone = alone ≡ None → ⊥
 IsPairAhead (first ∷ rest) pairs alone = HasRival first pairs
 
 -- the first repair is not ahead of correcting only the numbers
-abbrev pub IsNearNumbers : (told : List Repair) → Option NumbersAlone → Type 0
+abbrev pub IsNearNumbers : (reported : List Repair) → Option NumbersAlone → Type 0
 IsNearNumbers [] alone = ⊥
 IsNearNumbers (first ∷ rest) alone = IsAheadOfNumbers alone first → ⊥
 
 -- Whether each change was tried, and is known to be a repair or not.
-abbrev pub all_known : (left : List Listed) → (from : ℕ) → Bool
+abbrev pub all_known : (remaining : List Listed) → (from : ℕ) → Bool
 all_known [] from = from == 0
 all_known (listed ∷ rest) from = false
 
 -- Which of the repairs that were found is to be chosen, if one is: none if some change is left open or was not tried, and none if two changes or the numbers alone
 -- are as likely, or a slip of the whole sheet is. Correcting only the numbers is chosen if it is ahead of all of them and known to make a game; and a slip
 -- of the whole sheet, if it is ahead of all else and known to make a game of which every number is right.
-abbrev pub IsChoice : (told : List Repair) → (known : Bool) → (pairs : List Pair) → (sheets : List SheetRepair) → Option NumbersAlone → Choice → Type 0
-IsChoice told known pairs sheets alone choice.None = (known ≡ true) × (told ≡ []) × (alone ≡ None) × (sheets ≡ [])
-IsChoice told known pairs sheets alone choice.Open = (known ≡ true → ⊥) ⊎ (Lead alone told pairs × IsGameAlone alone false × IsNoneChosen told pairs alone sheets) ⊎ IsSheetOpen told pairs alone sheets
-IsChoice told known pairs sheets alone choice.Numbers = (known ≡ true) × Lead alone told pairs × IsGameAlone alone true × AreNumbersBelow alone sheets
-IsChoice told known pairs sheets alone choice.Pair = (known ≡ true) × (Lead alone told pairs → ⊥) × IsPairAhead told pairs alone × IsNoneChosen told pairs alone sheets
-IsChoice told known pairs sheets alone choice.NearNumbers = (known ≡ true) × (Lead alone told pairs → ⊥) × IsNearNumbers told alone × IsNoneChosen told pairs alone sheets
-IsChoice told known pairs sheets alone choice.Close = (known ≡ true) × AreClose told × IsNoneChosen told pairs alone sheets
-IsChoice told known pairs sheets alone (choice.Clear repair) =
-    (known ≡ true) × IsFirst told repair.now × (HasRival repair.now pairs → ⊥) × IsAheadOfNumbers alone repair.now × IsFarBelowSheets (cost_in repair.now) sheets
-IsChoice told known pairs sheets alone (choice.Sheet s) = (known ≡ true) × IsSheetChosen told pairs alone sheets s.now
-IsChoice told known pairs sheets alone choice.NearSheet =
-    (known ≡ true) × (sheets ≡ [] → ⊥) × IsNoneChosen told pairs alone sheets × IsNoneBelow told sheets × (AreNumbersBelow alone sheets → ⊥)
+abbrev pub IsChoice : (reported : List Repair) → (known : Bool) → (pairs : List Pair) → (sheets : List SheetRepair) → Option NumbersAlone → Choice → Type 0
+IsChoice reported known pairs sheets alone choice.None = (known ≡ true) × (reported ≡ []) × (alone ≡ None) × (sheets ≡ [])
+IsChoice reported known pairs sheets alone choice.Open = (known ≡ true → ⊥) ⊎ (Lead alone reported pairs × IsGameAlone alone false × IsNoneChosen reported pairs alone sheets) ⊎ IsSheetOpen reported pairs alone sheets
+IsChoice reported known pairs sheets alone choice.Numbers = (known ≡ true) × Lead alone reported pairs × IsGameAlone alone true × AreNumbersBelow alone sheets
+IsChoice reported known pairs sheets alone choice.Pair = (known ≡ true) × (Lead alone reported pairs → ⊥) × IsPairAhead reported pairs alone × IsNoneChosen reported pairs alone sheets
+IsChoice reported known pairs sheets alone choice.NearNumbers = (known ≡ true) × (Lead alone reported pairs → ⊥) × IsNearNumbers reported alone × IsNoneChosen reported pairs alone sheets
+IsChoice reported known pairs sheets alone choice.Close = (known ≡ true) × AreClose reported × IsNoneChosen reported pairs alone sheets
+IsChoice reported known pairs sheets alone (choice.Clear repair) =
+    (known ≡ true) × IsFirst reported repair.now × (HasRival repair.now pairs → ⊥) × IsAheadOfNumbers alone repair.now × IsFarBelowSheets (cost_in repair.now) sheets
+IsChoice reported known pairs sheets alone (choice.Sheet s) = (known ≡ true) × IsSheetChosen reported pairs alone sheets s.now
+IsChoice reported known pairs sheets alone choice.NearSheet =
+    (known ≡ true) × (sheets ≡ [] → ⊥) × IsNoneChosen reported pairs alone sheets × IsNoneBelow reported sheets × (AreNumbersBelow alone sheets → ⊥)

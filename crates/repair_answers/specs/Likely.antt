@@ -6,12 +6,12 @@ use Rattle.gcg_read.specs.declared.faults.ReadFault.{ReadFault}
 use Rattle.game_case.specs.declared.entries.Entry.{Entry}
 use Rattle.game_case.specs.declared.findings.Finding.{Finding}
 use Rattle.game_case.specs.declared.findings.Finding.TheVariants as finding
-use Rattle.game_rows.specs.declared.walking.Walk.{Walk}
-use Rattle.game_rows.specs.Walks.{IsWalkOf}
-use Rattle.play_changes.specs.PlayChanges.{ArePlayChanges}
-use Rattle.record_changes.specs.declared.slips.Change.{Change}
-use Rattle.record_repairs.specs.declared.listed.Listed.{Listed}
-use Rattle.record_repairs.specs.declared.repair.Repair.{Repair}
+use Rattle.game_walk.specs.declared.walking.Walk.{Walk}
+use Rattle.game_walk.specs.Walks.{IsWalkOf}
+use Rattle.repair_plays.specs.PlayChanges.{ArePlayChanges}
+use Rattle.repair_changes.specs.declared.slips.Change.{Change}
+use Rattle.repair_single.specs.declared.listed.Listed.{Listed}
+use Rattle.repair_single.specs.declared.repair.Repair.{Repair}
 use Rattle.repair_pairs.specs.declared.found.Pair.{Pair}
 use Rattle.repair_pairs.specs.declared.found.Pairs.{Pairs}
 use Rattle.repair_pairs.specs.Pairs.{ArePairs}
@@ -19,7 +19,7 @@ use Rattle.repair_answers.specs.Answers.{below_of}
 use Rattle.repair_answers.specs.Alike.{cost_in}
 use Rattle.repair_answers.specs.Choices.{all_known, IsFirst, HasRival, IsAheadOfNumbers, IsFarBelowSheets, IsSheetChosen, IsNoneChosen}
 use Rattle.repair_answers.specs.Sheets.{sheet_room, slips_tried, AreSheetRepairs}
-use Rattle.repair_answers.specs.Trades.{AreTold}
+use Rattle.repair_answers.specs.Trades.{AreReported}
 use Rattle.repair_answers.specs.Unchanged.{IsUnchanged}
 use Rattle.repair_answers.specs.declared.numbers_alone.NumbersAlone.{NumbersAlone}
 use Rattle.repair_answers.specs.declared.sheet_repair.SheetRepair.{SheetRepair}
@@ -28,23 +28,23 @@ use Rattle.repair_answers.specs.declared.likely.Likely.TheVariants as likely_one
 
 -- The likely one of some repairs: each change was tried and none is left open, it is ahead of the others, of the slips of the whole sheet and of the record with only its
 -- numbers corrected, and no two changes cost less.
-abbrev pub IsFarFirst : Option NumbersAlone → (told : List Repair) → (known : Bool) → (pairs : List Pair) → (sheets : List SheetRepair) → Repair → Type 0
-IsFarFirst alone told known pairs sheets repair =
-    (known ≡ true) × IsFirst told repair × (HasRival repair pairs → ⊥) × IsAheadOfNumbers alone repair × IsFarBelowSheets (cost_in repair) sheets
+abbrev pub IsFarFirst : Option NumbersAlone → (reported : List Repair) → (known : Bool) → (pairs : List Pair) → (sheets : List SheetRepair) → Repair → Type 0
+IsFarFirst alone reported known pairs sheets repair =
+    (known ≡ true) × IsFirst reported repair × (HasRival repair pairs → ⊥) × IsAheadOfNumbers alone repair × IsFarBelowSheets (cost_in repair) sheets
 
 -- that neither is the likely one
-pub record IsNoneLikely (alone : Option NumbersAlone) (told : List Repair) (known : Bool) (pairs : List Pair) (sheets : List SheetRepair) : Type 0 where
-  pub change : (repair : Repair) → IsFarFirst alone told known pairs sheets repair → ⊥
-  pub sheet : known ≡ true → IsNoneChosen told pairs alone sheets
+pub record IsNoneLikely (alone : Option NumbersAlone) (reported : List Repair) (known : Bool) (pairs : List Pair) (sheets : List SheetRepair) : Type 0 where
+  pub change : (repair : Repair) → IsFarFirst alone reported known pairs sheets repair → ⊥
+  pub sheet : known ≡ true → IsNoneChosen reported pairs alone sheets
 
 -- That one, or the slip of the whole sheet that is ahead of all else; or that there is none.
-abbrev pub IsLikelyOf : Option NumbersAlone → (told : List Repair) → (known : Bool) → (pairs : List Pair) → (sheets : List SheetRepair) → Option Likely → Type 0
-IsLikelyOf alone told known pairs sheets (Some (likely_one.Change repair)) = IsFarFirst alone told known pairs sheets repair
-IsLikelyOf alone told known pairs sheets (Some (likely_one.Sheet s)) = (known ≡ true) × IsSheetChosen told pairs alone sheets s
-IsLikelyOf alone told known pairs sheets None = IsNoneLikely alone told known pairs sheets
+abbrev pub IsLikelyOf : Option NumbersAlone → (reported : List Repair) → (known : Bool) → (pairs : List Pair) → (sheets : List SheetRepair) → Option Likely → Type 0
+IsLikelyOf alone reported known pairs sheets (Some (likely_one.Change repair)) = IsFarFirst alone reported known pairs sheets repair
+IsLikelyOf alone reported known pairs sheets (Some (likely_one.Sheet s)) = (known ≡ true) × IsSheetChosen reported pairs alone sheets s
+IsLikelyOf alone reported known pairs sheets None = IsNoneLikely alone reported known pairs sheets
 
 -- the first of some repairs, and of some slips of the whole sheet
-abbrev pub IsFirstChange : (told : List Repair) → Option Likely → Type 0
+abbrev pub IsFirstChange : (reported : List Repair) → Option Likely → Type 0
 IsFirstChange [] likely = likely ≡ None
 IsFirstChange (first ∷ rest) likely = likely ≡ Some (likely_one.Change first)
 
@@ -62,15 +62,15 @@ pub record IsLikely (rules : Rules) (list : List (List ℕ)) (text : List ℕ) (
   pub walked : IsWalkOf rules list written walk
   pub plays : List Change
   pub are_plays : ArePlayChanges written walk plays
-  pub told : List Repair
-  pub left : List Listed
+  pub reported : List Repair
+  pub remaining : List Listed
   pub from : ℕ
-  pub repairs : AreTold rules list written numbers plays (below_of numbers) from 4 told left
+  pub repairs : AreReported rules list written numbers plays (below_of numbers) from 4 reported remaining
   pub two : Pairs
-  pub pairs : ArePairs rules list written told 1 two
+  pub pairs : ArePairs rules list written reported 1 two
   pub sheets : List SheetRepair
   pub are_sheets : AreSheetRepairs rules list text written (sheet_room numbers) (slips_tried text written walk) sheets
-  pub chosen : IsLikelyOf numbers told (all_known left from) two.told.items sheets likely
+  pub chosen : IsLikelyOf numbers reported (all_known remaining from) two.reported.items sheets likely
 
 -- The likely repair of a record with this finding: only an illegal one has it.
 abbrev pub IsLikelyFor : Rules → (list : List (List ℕ)) → Finding → (text : List ℕ) → (written : List Event) → Option Likely → Type 0

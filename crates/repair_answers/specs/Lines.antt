@@ -1,11 +1,11 @@
 -- Repairs, and pairs of changes, in lines.
 use Rattle.std.specs.Prelude.{◌≡◌, ℕ, ◌+◌, ◌-◌, not, Bool, true, false, List, [], ◌∷◌, ◌++◌, map, filter, take, length, All, slice_get, nat_lt, Option, Some, None, if◌then◌else◌}
 use Rattle.std.specs.List.{list_all, count_by, range_with_len}
-use Rattle.record_repairs.specs.declared.repair.Repair.{Repair}
+use Rattle.repair_single.specs.declared.repair.Repair.{Repair}
 use Rattle.repair_answers.specs.Alike.{cost_in}
 use Rattle.repair_answers.specs.Choices.{alone_cost}
 use Rattle.repair_answers.specs.declared.numbers_alone.NumbersAlone.{NumbersAlone}
-use Rattle.repair_answers.specs.declared.evidence.Told.{Told}
+use Rattle.repair_answers.specs.declared.evidence.Reported.{Reported}
 
 abbrev pub are_like : {T : Type 0} → (like : T → T → Bool) → Option T → Option T → Bool
 are_like like (Some one) (Some two) = like one two
@@ -28,7 +28,7 @@ abbrev pub others_of : {T : Type 0} → (like : T → T → Bool) → List T →
 others_of like items first = filter (like_at like items first) (range_with_len (first + 1) (length items - (first + 1)))
 
 -- a line has the items that are like its first
-abbrev pub IsLine : {T : Type 0} → (like : T → T → Bool) → List T → Told → Type 0
+abbrev pub IsLine : {T : Type 0} → (like : T → T → Bool) → List T → Reported → Type 0
 IsLine like items line = line.others.items ≡ others_of like items line.first
 
 -- the numbers of those that are the first of a line
@@ -36,22 +36,22 @@ abbrev pub first_ones : {T : Type 0} → (like : T → T → Bool) → List T �
 first_ones like items = filter (is_first like items) (range_with_len 0 (length items))
 
 -- the line of the item at a number is added, if the item is the first of a line
-pub record AddsOne {T : Type 0} (like : T → T → Bool) (items : List T) (index : ℕ) (old new : List Told) : Type 0 where
-  pub line : Told
+pub record AddsOne {T : Type 0} (like : T → T → Bool) (items : List T) (index : ℕ) (old new : List Reported) : Type 0 where
+  pub line : Reported
   pub added : new ≡ old ++ line ∷ []
   pub first : line.first ≡ index
   pub is : IsLine like items line
 
-abbrev pub AddsBy : {T : Type 0} → Bool → (like : T → T → Bool) → List T → (index : ℕ) → (old new : List Told) → Type 0
+abbrev pub AddsBy : {T : Type 0} → Bool → (like : T → T → Bool) → List T → (index : ℕ) → (old new : List Reported) → Type 0
 AddsBy true like items index old new = AddsOne like items index old new
 AddsBy false like items index old new = new ≡ old
 
-abbrev pub AddsLine : {T : Type 0} → (like : T → T → Bool) → List T → (index : ℕ) → (old new : List Told) → Type 0
+abbrev pub AddsLine : {T : Type 0} → (like : T → T → Bool) → List T → (index : ℕ) → (old new : List Reported) → Type 0
 AddsLine like items index old new = AddsBy (is_first like items index) like items index old new
 
 -- The first `most` lines of some items, in the order of their first ones: those that are alike share a line.
-pub record AreLines {T : Type 0} (like : T → T → Bool) (items : List T) (most : ℕ) (lines : List Told) : Type 0 where
-  pub firsts : map (λ (line : Told). line.first) lines ≡ take most (first_ones like items)
+pub record AreLines {T : Type 0} (like : T → T → Bool) (items : List T) (most : ℕ) (lines : List Reported) : Type 0 where
+  pub firsts : map (λ (line : Reported). line.first) lines ≡ take most (first_ones like items)
   pub each : All (IsLine like items) lines
 
 -- whether the first repair of a line costs less than correcting only the numbers
@@ -59,10 +59,10 @@ abbrev pub is_below : NumbersAlone → Option Repair → Bool
 is_below alone None = false
 is_below alone (Some repair) = nat_lt (cost_in repair) (alone_cost alone)
 
-abbrev pub is_before : NumbersAlone → List Repair → Told → Bool
+abbrev pub is_before : NumbersAlone → List Repair → Reported → Bool
 is_before alone repairs line = is_below alone (slice_get repairs line.first)
 
 -- How many of some lines cost less than correcting only the numbers; none if more than numbers is wrong.
-abbrev pub before_numbers : Option NumbersAlone → List Repair → List Told → ℕ
+abbrev pub before_numbers : Option NumbersAlone → List Repair → List Reported → ℕ
 before_numbers None repairs lines = 0
 before_numbers (Some alone) repairs lines = count_by (is_before alone repairs) lines

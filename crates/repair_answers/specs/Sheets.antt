@@ -2,16 +2,16 @@
 use Rattle.std.specs.Prelude.{◌≡◌, ℕ, ◌+◌, ◌<◌, ◌==◌, ◌&&◌, ◌||◌, nat_lt, min, Bool, true, List, length, All, AllPairs, Contains, slice_get, Option, Some, None}
 use Rattle.ref_tiles.specs.declared.rulebook.Rules.{Rules}
 use Rattle.gcg_read.specs.declared.events.Event.{Event}
-use Rattle.game_sheets.specs.WrongNumbers.{wrong_lines}
-use Rattle.game_rows.specs.Numbers.{renumbered}
-use Rattle.game_rows.specs.declared.walking.Walk.{Walk}
+use Rattle.game_corrections.specs.WrongNumbers.{wrong_lines}
+use Rattle.game_walk.specs.Numbers.{renumbered}
+use Rattle.game_walk.specs.declared.walking.Walk.{Walk}
 use Rattle.game_deal.specs.Verdicts.{IsGame}
-use Rattle.record_repairs.specs.Remaining.{unlisted_words}
-use Rattle.record_repairs.specs.Trying.{IsWritable}
-use Rattle.sheet_slips.specs.declared.slips.SheetSlip.{SheetSlip}
-use Rattle.sheet_slips.specs.Listing.{sheet_slips}
-use Rattle.sheet_slips.specs.Undoing.{without_slip}
-use Rattle.sheet_slips.specs.Weights.{weight_of}
+use Rattle.repair_single.specs.Remaining.{unlisted_words}
+use Rattle.repair_single.specs.Trying.{IsWritable}
+use Rattle.repair_sheets.specs.declared.slips.SheetSlip.{SheetSlip}
+use Rattle.repair_sheets.specs.Listing.{sheet_slips}
+use Rattle.repair_sheets.specs.Undoing.{without_slip}
+use Rattle.repair_sheets.specs.Weights.{weight_of}
 use Rattle.repair_answers.specs.Unchanged.{AreNumbersAlone, IsUnchanged}
 use Rattle.repair_answers.specs.Choices.{alone_cost}
 use Rattle.repair_answers.specs.declared.numbers_alone.NumbersAlone.{NumbersAlone}
@@ -27,13 +27,13 @@ abbrev pub slips_tried : (text : List ℕ) → List Event → Walk → List Shee
 slips_tried text written walk = sheet_slips text written (slip_places written walk)
 
 -- how many numbers and words are wrong
-abbrev pub many_wrong : NumbersAlone → ℕ
-many_wrong alone = length alone.remains.wrong.items + length alone.remains.unlisted.items
+abbrev pub count_wrong : NumbersAlone → ℕ
+count_wrong alone = length alone.remains.wrong.items + length alone.remains.unlisted.items
 
 -- Fewer numbers and words than this stay wrong without a slip of the whole sheet: fewer than ten, and fewer than if only the numbers are corrected.
 abbrev pub sheet_room : Option NumbersAlone → ℕ
 sheet_room None = 10
-sheet_room (Some alone) = min (many_wrong alone) 10
+sheet_room (Some alone) = min (count_wrong alone) 10
 
 -- The record without the slip is a game once its numbers are corrected: the rules allow each event with its right numbers, and some deal yields every
 -- rack. Few enough numbers and words are wrong then.
@@ -51,7 +51,7 @@ pub record IsGameBut (rules : Rules) (list : List (List ℕ)) (text : List ℕ) 
   pub without : without_slip s text written ≡ Some made
   pub numbered : right ≡ renumbered made numbers.right.items
   pub alone : AreNumbersAlone rules list made numbers
-  pub fewer : many_wrong numbers < room
+  pub fewer : count_wrong numbers < room
 
 -- one of the slips that are tried, by its number among them; the right events, what is wrong without it, and what it costs
 pub record IsSheetRepair (rules : Rules) (list : List (List ℕ)) (text : List ℕ) (written : List Event) (room : ℕ) (slips : List SheetSlip) (r : SheetRepair) : Type 0 where

@@ -2,13 +2,13 @@
 use Rattle.std.specs.Prelude.{◌≡◌, ℕ, ◌<◌, ◌^◌, ◌&&◌, not, nat_lt, Bool, true, false, List, length, filter, Option, Some, None}
 use Rattle.ref_tiles.specs.declared.rulebook.Rules.{Rules}
 use Rattle.gcg_read.specs.declared.events.Event.{Event}
-use Rattle.record_changes.specs.declared.slips.Change.{Change}
-use Rattle.record_changes.specs.declared.slips.Slip.{Slip}
-use Rattle.record_changes.specs.declared.slips.Slip.TheVariants as slip
-use Rattle.record_changes.specs.declared.slips.SpellingSlip.TheVariants as spelling
-use Rattle.record_repairs.specs.Repairs.{AreFirstRepairs}
-use Rattle.record_repairs.specs.declared.listed.Listed.{Listed}
-use Rattle.record_repairs.specs.declared.repair.Repair.{Repair}
+use Rattle.repair_changes.specs.declared.slips.Change.{Change}
+use Rattle.repair_changes.specs.declared.slips.Slip.{Slip}
+use Rattle.repair_changes.specs.declared.slips.Slip.TheVariants as slip
+use Rattle.repair_changes.specs.declared.slips.SpellingSlip.TheVariants as spelling
+use Rattle.repair_single.specs.Repairs.{AreFirstRepairs}
+use Rattle.repair_single.specs.declared.listed.Listed.{Listed}
+use Rattle.repair_single.specs.declared.repair.Repair.{Repair}
 use Rattle.repair_answers.specs.declared.numbers_alone.NumbersAlone.{NumbersAlone}
 
 -- two letters of a word are in each other's place
@@ -25,13 +25,13 @@ abbrev pub avoids_word : NumbersAlone → Repair → Bool
 avoids_word alone repair = nat_lt 3 (length alone.remains.unlisted.items) && is_trade repair.listed.change.slip && rights_none alone repair
 
 -- such a repair is not told
-abbrev pub is_told : Option NumbersAlone → Repair → Bool
-is_told None repair = true
-is_told (Some alone) repair = not (avoids_word alone repair)
+abbrev pub is_reported : Option NumbersAlone → Repair → Bool
+is_reported None repair = true
+is_reported (Some alone) repair = not (avoids_word alone repair)
 
 -- The first repairs of a record, no more than memory holds, but for those.
-pub record AreTold (rules : Rules) (list : List (List ℕ)) (written : List Event) (alone : Option NumbersAlone) (plays : List Change) (below : Option ℕ) (from most : ℕ) (told : List Repair) (left : List Listed) : Type 0 where
+pub record AreReported (rules : Rules) (list : List (List ℕ)) (written : List Event) (alone : Option NumbersAlone) (plays : List Change) (below : Option ℕ) (from most : ℕ) (reported : List Repair) (remaining : List Listed) : Type 0 where
   pub found : List Repair
-  pub first : AreFirstRepairs rules list written plays below from most found left
+  pub first : AreFirstRepairs rules list written plays below from most found remaining
   pub few : length found < 2 ^ 63
-  pub kept : told ≡ filter (is_told alone) found
+  pub kept : reported ≡ filter (is_reported alone) found

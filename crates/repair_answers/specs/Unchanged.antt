@@ -3,16 +3,16 @@ use Rattle.std.specs.Prelude.{◌≡◌, ℕ, Bool, true, false, List, filter, m
 use Rattle.ref_tiles.specs.declared.rulebook.Rules.{Rules}
 use Rattle.gcg_read.specs.declared.events.Event.{Event}
 use Rattle.gcg_read.specs.declared.records.Record.{Record}
-use Rattle.event_notes.specs.Unlisted.{letters_in}
-use Rattle.game_rows.specs.declared.rows.Row.{Row}
-use Rattle.game_rows.specs.Numbers.{numbers_in}
-use Rattle.game_sheets.specs.declared.wrong_numbers.WrongNumber.{WrongNumber}
-use Rattle.game_sheets.specs.Corrections.{AreRenumbered}
-use Rattle.game_sheets.specs.WrongNumbers.{wrong_lines}
+use Rattle.game_bests.specs.Unlisted.{letters_in}
+use Rattle.game_walk.specs.declared.rows.Row.{Row}
+use Rattle.game_walk.specs.Numbers.{numbers_in}
+use Rattle.game_corrections.specs.declared.wrong_numbers.WrongNumber.{WrongNumber}
+use Rattle.game_corrections.specs.Corrections.{AreRenumbered}
+use Rattle.game_corrections.specs.WrongNumbers.{wrong_lines}
 use Rattle.game_deal.specs.Verdicts.{IsGame, IsUnsettled}
-use Rattle.record_repairs.specs.Remaining.{is_on_line, unlisted_words, words_of_rows}
-use Rattle.record_repairs.specs.Trying.{IsWritable}
-use Rattle.record_repairs.specs.declared.remains.Remains.{Remains}
+use Rattle.repair_single.specs.Remaining.{is_on_line, unlisted_words, words_of_rows}
+use Rattle.repair_single.specs.Trying.{IsWritable}
+use Rattle.repair_single.specs.declared.remains.Remains.{Remains}
 use Rattle.repair_answers.specs.declared.numbers_alone.NumbersAlone.{NumbersAlone}
 
 -- some deal yields the racks of these events; or it is not known whether one does
@@ -41,7 +41,7 @@ IsUnchanged rules list written (Some alone) = AreNumbersAlone rules list written
 IsUnchanged rules list written None = (right : List Event) → IsWritable rules list written right → IsGame rules list right → ⊥
 
 -- what is left of an audit: the wrong numbers that are on a line, and the words of its rows that are not in the list
-pub record AreLeft (list : List (List ℕ)) (audited : List WrongNumber) (rows : List Row) (remains : Remains) : Type 0 where
+pub record AreRemaining (list : List (List ℕ)) (audited : List WrongNumber) (rows : List Row) (remains : Remains) : Type 0 where
   pub wrong : remains.wrong.items ≡ filter is_on_line audited
   pub unlisted : letters_in remains.unlisted.items ≡ words_of_rows list rows
 

@@ -3,9 +3,9 @@ ghost use Rattle.std.specs.Prelude.{◌≡◌};
 ghost use Rattle.repair_answers.specs.Alike.{same_tile, same_use, like_spelling, like_tile, like_misread, like_code, like_missing, like_slip, is_like};
 
 use gcg_read::same_seat;
-use record_changes::{CodeSlip, Misread, MissingLine, Slip, SpellingSlip, TileSlip, TilesOf};
-use record_repairs::Repair;
 use ref_tiles::Kind;
+use repair_changes::{CodeSlip, Misread, MissingLine, Slip, SpellingSlip, TileSlip, TilesOf};
+use repair_single::Repair;
 
 /// Whether both are the same kind of tile.
 pub(crate) fn same_tile(kind: Kind, other: Kind) -> bool

@@ -8,12 +8,12 @@ use crate::choices::cost_of;
 use crate::numbers_alone::NumbersAlone;
 use crate::singles::first_repairs;
 use crate::unchanged::unchanged;
-use game_rows::walk_as_written;
+use game_walk::walk_as_written;
 use gcg_read::Record;
 use lex_check::Checked;
-use record_changes::{MissingLine, Slip};
-use record_repairs::{Found, Repair};
 use ref_tiles::Rules;
+use repair_changes::{MissingLine, Slip};
+use repair_single::{Found, Repair};
 use std::alloc::{AllocError, Global};
 
 /// How many steps the search may take: about as many as the events that it goes over.
@@ -46,9 +46,9 @@ fn explains(alone: &Option<NumbersAlone>, repair: &Repair) -> bool
 
 /// The first of the repairs that were found, if it is one of a bonus or a penalty, and costs less than correcting only the numbers.
 fn amount_among(alone: &Option<NumbersAlone>, found: Found) -> Option<Repair>
-    ensures { IsAmountOf alone.now found.told.items result }
+    ensures { IsAmountOf alone.now found.reported.items result }
 {
-    match found.told.into_iter().next() {
+    match found.reported.into_iter().next() {
         Some(first) if explains(alone, &first) => Some(first),
         _ => None,
     }

@@ -1,6 +1,6 @@
 //! The answer of `repair`.
 ghost use Rattle.std.specs.Prelude.{◌≡◌, Some, IfOk, OnOk};
-ghost use Rattle.game_rows.specs.Walks.{IsWalkOf};
+ghost use Rattle.game_walk.specs.Walks.{IsWalkOf};
 ghost use Rattle.game_case.specs.Explaining.{HasItsWalk};
 ghost use Rattle.lex_check.specs.Pairs.{list_in};
 ghost use Rattle.repair_answers.specs.BadRecords.{RepairsOfLine};
@@ -8,23 +8,23 @@ ghost use Rattle.repair_answers.specs.Answers.{below_of, is_illegal, RepairsIn, 
 
 use crate::bad_records::{LineRepairs, repairs_of_line};
 use crate::chains::chain_of;
-use crate::evidence::{Told, before_numbers, lines_of};
+use crate::evidence::{Reported, before_numbers, lines_of};
 use crate::lists::{search_limit, tries_from};
 use crate::numbers_alone::NumbersAlone;
 use crate::sheet_repair::SheetRepair;
 use crate::sheets::sheet_repairs;
 use crate::singles::first_repairs;
 use crate::unchanged::unchanged;
-use call_stages::Verdict;
+use engine_stages::Verdict;
 use game_case::{Case, Entry, Finding, case_verdict};
-use game_rows::Walk;
+use game_walk::Walk;
 use gcg_read::Record;
 use lex_check::Checked;
-use record_changes::Change;
-use record_repairs::Found;
 use ref_tiles::Rules;
 use repair_chains::Chain;
+use repair_changes::Change;
 use repair_pairs::{Pairs, pairs};
+use repair_single::Found;
 use std::alloc::{AllocError, Global};
 
 /// How many repairs one line may have: one more than there are letters.
@@ -43,13 +43,13 @@ pub struct Faulty {
     /// The first repairs, and the changes that are left open.
     pub found: Found,
     /// The first repairs in lines.
-    pub lines: Vec<Told>,
+    pub lines: Vec<Reported>,
     /// How many of these lines cost less than correcting only the numbers.
     pub before_numbers: usize,
     /// Pairs of changes that repair it and cost less than each of the first repairs.
     pub pairs: Pairs,
     /// The pairs in lines.
-    pub pair_lines: Vec<Told>,
+    pub pair_lines: Vec<Reported>,
     /// The slips of the whole sheet that repair it, those that cost least first.
     pub sheets: Vec<SheetRepair>,
     /// How many changes there are, with those of plays that a search found.
@@ -113,19 +113,19 @@ fn faulty_of(
         wanted,
         limit,
     )?;
-    let told = singles.found.told.as_slice();
-    let lines = lines_of(alloc, told, most)?;
-    let before = before_numbers(&alone, told, lines.as_slice());
+    let reported = singles.found.reported.as_slice();
+    let lines = lines_of(alloc, reported, most)?;
+    let before = before_numbers(&alone, reported, lines.as_slice());
     let pairs = pairs(
         alloc,
         rules,
         list,
         &mut game.events,
-        told,
+        reported,
         wanted,
         PAIR_STEPS,
     )?;
-    let pair_lines = lines_of(alloc, pairs.told.as_slice(), most)?;
+    let pair_lines = lines_of(alloc, pairs.reported.as_slice(), most)?;
     let events = game.events.as_slice();
     let sheets = sheet_repairs(alloc, rules, list, text, events, walk, &alone)?;
     let from = singles.found.from;

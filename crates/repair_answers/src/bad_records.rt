@@ -31,14 +31,14 @@ pub struct LineRepairs {
 }
 
 /// How many of some repairs have this cost.
-fn many_with(found: &[SheetRepair], cost: u128) -> usize
+fn count_with(found: &[SheetRepair], cost: u128) -> usize
     ensures { result ≡ count_by (costs cost) found.now }
 {
     found.iter().filter(|repair| repair.cost == cost).count()
 }
 
 /// Adds the line of the repairs that cost what the one with a number does, if that is the first of them.
-fn push_line(
+fn push_line_of_first(
     lines: &mut Vec<SameCost>,
     found: &[SheetRepair],
     number: usize,
@@ -47,10 +47,10 @@ fn push_line(
     ensures { OnOk result (lines.new.items ≡ lines.old.items ++ lines_at found.now number) }
 {
     let cost = found[number].cost;
-    if many_with(&found[..number], cost) == 0 {
+    if count_with(&found[..number], cost) == 0 {
         lines.push(SameCost {
             first: number,
-            many: many_with(found, cost),
+            many: count_with(found, cost),
         })?;
     }
     Ok(())
@@ -63,7 +63,7 @@ fn all_lines(alloc: Global, found: &[SheetRepair]) -> Result<Vec<SameCost>, Allo
 {
     let mut lines = Vec::new(alloc);
     for number in 0..found.len() {
-        push_line(&mut lines, found, number)?;
+        push_line_of_first(&mut lines, found, number)?;
     }
     Ok(lines)
 }

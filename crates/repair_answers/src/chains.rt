@@ -25,11 +25,11 @@ fn least(cost: Option<u128>, other: Option<u128>) -> Option<u128> {
 /// What the likeliest costs of one change, two changes, a slip of the whole sheet, and correcting only the numbers; `None` if none of them makes the record
 /// a game.
 fn least_cost(faulty: &Faulty) -> Option<u128> {
-    let single = match faulty.found.told.as_slice() {
+    let single = match faulty.found.reported.as_slice() {
         [first, ..] => Some(cost_of(first)),
         [] => None,
     };
-    let pair = match faulty.pairs.told.as_slice() {
+    let pair = match faulty.pairs.reported.as_slice() {
         [first, ..] => Some(first.cost),
         [] => None,
     };
@@ -46,7 +46,7 @@ fn least_cost(faulty: &Faulty) -> Option<u128> {
 
 /// Whether several changes are looked for: if no change is left open, and nothing simpler makes the record a game, or only with more than two wrong numbers.
 fn is_open(faulty: &Faulty, least: Option<u128>) -> bool {
-    if !faulty.found.left.is_empty() {
+    if !faulty.found.remaining.is_empty() {
         return false;
     }
     match least {

@@ -8,9 +8,9 @@ use crate::answers::Faulty;
 use crate::numbers_alone::{NUMBER, NumbersAlone};
 use crate::sheet_choices::with_sheets;
 use crate::sheet_repair::SheetRepair;
-use record_changes::{Slip, TileSlip, TilesOf};
-use record_repairs::{Found, Repair};
+use repair_changes::{Slip, TileSlip, TilesOf};
 use repair_pairs::Pair;
+use repair_single::{Found, Repair};
 
 /// Whether one repair is to be chosen.
 #[derive(Clone, Copy)]
@@ -128,10 +128,10 @@ fn is_ahead_of_numbers(alone: &Option<NumbersAlone>, repair: &Repair) -> bool
 }
 
 /// Whether correcting only the numbers is ahead of the first repair.
-fn leads_repairs(alone: &NumbersAlone, told: &[Repair]) -> bool
-    ensures { IsTrue result ↔ LeadsRepairs alone.now told.now }
+fn leads_repairs(alone: &NumbersAlone, reported: &[Repair]) -> bool
+    ensures { IsTrue result ↔ LeadsRepairs alone.now reported.now }
 {
-    match told {
+    match reported {
         [] => true,
         [first, ..] => is_far_below(alone.cost(), cost_of(first)),
     }
@@ -148,19 +148,23 @@ fn leads_pairs(alone: &NumbersAlone, pairs: &[Pair]) -> bool
 }
 
 /// Whether correcting only the numbers is ahead of all changes.
-fn lead(alone: &Option<NumbersAlone>, told: &[Repair], pairs: &[Pair]) -> bool
-    ensures { IsTrue result ↔ Lead alone.now told.now pairs.now }
+fn lead(alone: &Option<NumbersAlone>, reported: &[Repair], pairs: &[Pair]) -> bool
+    ensures { IsTrue result ↔ Lead alone.now reported.now pairs.now }
 {
     match alone {
-        Some(alone) => leads_repairs(alone, told) && leads_pairs(alone, pairs),
+        Some(alone) => leads_repairs(alone, reported) && leads_pairs(alone, pairs),
         None => false,
     }
 }
 
 /// The choice, if correcting only the numbers is ahead of all changes.
-fn by_numbers<'a>(alone: &Option<NumbersAlone>, told: &'a [Repair], pairs: &[Pair]) -> Choice<'a>
-    requires { Lead alone.now told.now pairs.now }
-    ensures { IsChoice told.now true pairs.now [] alone.now result }
+fn by_numbers<'a>(
+    alone: &Option<NumbersAlone>,
+    reported: &'a [Repair],
+    pairs: &[Pair],
+) -> Choice<'a>
+    requires { Lead alone.now reported.now pairs.now }
+    ensures { IsChoice reported.now true pairs.now [] alone.now result }
 {
     match alone {
         Some(alone) if alone.is_game => Choice::Numbers,
@@ -172,12 +176,12 @@ fn by_numbers<'a>(alone: &Option<NumbersAlone>, told: &'a [Repair], pairs: &[Pai
 /// The choice, if there is no repair.
 fn without_repair<'a>(
     alone: &Option<NumbersAlone>,
-    told: &'a [Repair],
+    reported: &'a [Repair],
     pairs: &[Pair],
 ) -> Choice<'a>
-    requires told { told.now ≡ [] }
-    requires behind { Lead alone.now told.now pairs.now → ⊥ }
-    ensures { IsChoice told.now true pairs.now [] alone.now result }
+    requires reported { reported.now ≡ [] }
+    requires following { Lead alone.now reported.now pairs.now → ⊥ }
+    ensures { IsChoice reported.now true pairs.now [] alone.now result }
 {
     match alone {
         Some(_) => Choice::Pair,
@@ -186,12 +190,16 @@ fn without_repair<'a>(
 }
 
 /// The choice, if there is a repair and correcting only the numbers is not ahead of all changes.
-fn by_repairs<'a>(alone: &Option<NumbersAlone>, told: &'a [Repair], pairs: &[Pair]) -> Choice<'a>
-    requires { Lead alone.now told.now pairs.now → ⊥ }
-    ensures { IsChoice told.now true pairs.now [] alone.now result }
+fn by_repairs<'a>(
+    alone: &Option<NumbersAlone>,
+    reported: &'a [Repair],
+    pairs: &[Pair],
+) -> Choice<'a>
+    requires { Lead alone.now reported.now pairs.now → ⊥ }
+    ensures { IsChoice reported.now true pairs.now [] alone.now result }
 {
-    let [first, rest @ ..] = told else {
-        return without_repair(alone, told, pairs);
+    let [first, rest @ ..] = reported else {
+        return without_repair(alone, reported, pairs);
     };
     if has_rival(first, pairs) {
         Choice::Pair
@@ -206,24 +214,24 @@ fn by_repairs<'a>(alone: &Option<NumbersAlone>, told: &'a [Repair], pairs: &[Pai
 
 /// The choice, if there is no slip of the whole sheet that repairs the record.
 fn without_sheets<'a>(
-    told: &'a [Repair],
+    reported: &'a [Repair],
     pairs: &[Pair],
     alone: &Option<NumbersAlone>,
 ) -> Choice<'a>
-    ensures { IsChoice told.now true pairs.now [] alone.now result }
+    ensures { IsChoice reported.now true pairs.now [] alone.now result }
 {
-    if lead(alone, told, pairs) {
-        by_numbers(alone, told, pairs)
+    if lead(alone, reported, pairs) {
+        by_numbers(alone, reported, pairs)
     } else {
-        by_repairs(alone, told, pairs)
+        by_repairs(alone, reported, pairs)
     }
 }
 
 /// Whether each change was tried, and is known to be a repair or not.
 fn all_known(found: &Found) -> bool
-    ensures { result ≡ all_known found.now.left.items found.now.from }
+    ensures { result ≡ all_known found.now.remaining.items found.now.from }
 {
-    match found.left.as_slice() {
+    match found.remaining.as_slice() {
         [] => found.from == 0,
         _ => false,
     }
@@ -237,26 +245,26 @@ pub(crate) fn choice_among<'a>(
     sheets: &'a [SheetRepair],
     alone: &Option<NumbersAlone>,
 ) -> Choice<'a>
-    ensures { IsChoice found.now.told.items (all_known found.now.left.items found.now.from) pairs.now sheets.now alone.now result }
+    ensures { IsChoice found.now.reported.items (all_known found.now.remaining.items found.now.from) pairs.now sheets.now alone.now result }
 {
     if !all_known(found) {
         return Choice::Open;
     }
-    let told = found.told.as_slice();
-    let without = without_sheets(told, pairs, alone);
+    let reported = found.reported.as_slice();
+    let without = without_sheets(reported, pairs, alone);
     match sheets {
         [] => without,
-        [first, rest @ ..] => with_sheets(without, first, rest, told, pairs, alone),
+        [first, rest @ ..] => with_sheets(without, first, rest, reported, pairs, alone),
     }
 }
 
 /// Which of the repairs that were found is to be chosen, if one is.
 pub fn choice_of(faulty: &Faulty) -> Choice<'_>
-    ensures { IsChoice faulty.now.found.told.items (all_known faulty.now.found.left.items faulty.now.found.from) faulty.now.pairs.told.items faulty.now.sheets.items faulty.now.alone result }
+    ensures { IsChoice faulty.now.found.reported.items (all_known faulty.now.found.remaining.items faulty.now.found.from) faulty.now.pairs.reported.items faulty.now.sheets.items faulty.now.alone result }
 {
     choice_among(
         &faulty.found,
-        faulty.pairs.told.as_slice(),
+        faulty.pairs.reported.as_slice(),
         faulty.sheets.as_slice(),
         &faulty.alone,
     )

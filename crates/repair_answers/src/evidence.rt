@@ -5,14 +5,14 @@ ghost use Rattle.repair_answers.specs.Lines.{like_at, is_first, those_like, othe
 use crate::alike::is_like;
 use crate::choices::cost_of;
 use crate::numbers_alone::NumbersAlone;
-use record_repairs::Repair;
 use repair_pairs::Pair;
+use repair_single::Repair;
 use std::alloc::{AllocError, Global};
 
 /// Repairs of one kind and one cost at one place, which differ in a letter or in how many tiles are exchanged; or pairs with the same first change, whose
 /// second ones are such repairs: their numbers among all that were found.
 #[derive(Drop)]
-pub struct Told {
+pub struct Reported {
     /// The first of them.
     pub first: usize,
     /// The others, in their order.
@@ -101,9 +101,9 @@ fn others_of<T: Lined>(alloc: Global, items: &[T], first: usize) -> Result<Vec<u
 }
 
 /// Adds the line of the item at a number, if the item is the first of a line.
-fn push_line<T: Lined>(
+fn push_line_of_first<T: Lined>(
     alloc: Global,
-    lines: &mut Vec<Told>,
+    lines: &mut Vec<Reported>,
     items: &[T],
     index: usize,
 ) -> Result<(), AllocError>
@@ -114,7 +114,7 @@ fn push_line<T: Lined>(
         return Ok(());
     }
     let others = others_of(alloc, items, index)?;
-    lines.push(Told {
+    lines.push(Reported {
         first: index,
         others,
     })?;
@@ -126,7 +126,7 @@ pub(crate) fn lines_of<T: Lined>(
     alloc: Global,
     items: &[T],
     most: usize,
-) -> Result<Vec<Told>, AllocError>
+) -> Result<Vec<Reported>, AllocError>
     ensures { IfOk result (λ lines. AreLines T.like items.now most lines.items) }
 {
     let mut lines = Vec::new(alloc);
@@ -134,13 +134,13 @@ pub(crate) fn lines_of<T: Lined>(
         if lines.len() == most {
             return Ok(lines);
         }
-        push_line(alloc, &mut lines, items, index)?;
+        push_line_of_first(alloc, &mut lines, items, index)?;
     }
     Ok(lines)
 }
 
 /// Whether the first repair of a line costs less than correcting only the numbers.
-fn is_before(alone: &NumbersAlone, repairs: &[Repair], line: &Told) -> bool
+fn is_before(alone: &NumbersAlone, repairs: &[Repair], line: &Reported) -> bool
     ensures { result ≡ is_before alone.now repairs.now line.now }
 {
     match repairs.get(line.first) {
@@ -153,7 +153,7 @@ fn is_before(alone: &NumbersAlone, repairs: &[Repair], line: &Told) -> bool
 pub(crate) fn before_numbers(
     alone: &Option<NumbersAlone>,
     repairs: &[Repair],
-    lines: &[Told],
+    lines: &[Reported],
 ) -> usize
     ensures { result ≡ before_numbers alone.now repairs.now lines.now }
 {

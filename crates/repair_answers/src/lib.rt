@@ -26,7 +26,7 @@ pub use amounts::amount_repair;
 pub use answers::{Faulty, RepairAnswer, answer_repairs};
 pub use bad_records::{LineRepairs, SameCost, choice_of_line};
 pub use choices::{Choice, choice_of};
-pub use evidence::Told;
+pub use evidence::Reported;
 pub use likely::{Likely, likely_in_case};
 pub use numbers_alone::NumbersAlone;
 pub use order::{Item, items_of};

@@ -1,6 +1,6 @@
 //! The repair of a record that is likelier than all others by far.
 ghost use Rattle.std.specs.Prelude.{◌≡◌, IfOk, OnOk};
-ghost use Rattle.game_rows.specs.Walks.{IsWalkOf};
+ghost use Rattle.game_walk.specs.Walks.{IsWalkOf};
 ghost use Rattle.game_case.specs.Explaining.{HasItsWalk};
 ghost use Rattle.lex_check.specs.Pairs.{list_in};
 ghost use Rattle.repair_answers.specs.Choices.{all_known};
@@ -14,12 +14,12 @@ use crate::sheets::sheet_repairs;
 use crate::singles::first_repairs;
 use crate::unchanged::unchanged;
 use game_case::{Case, Entry, Finding};
-use game_rows::Walk;
+use game_walk::Walk;
 use gcg_read::Record;
 use lex_check::Checked;
-use record_repairs::{Found, Repair};
 use ref_tiles::Rules;
 use repair_pairs::{Pair, pairs};
+use repair_single::{Found, Repair};
 use std::alloc::{AllocError, Global};
 
 /// How many repairs are looked for: the first, two that only say less, and another one.
@@ -51,10 +51,10 @@ impl Likely {
 }
 
 /// The first of some repairs.
-fn first_change(told: Vec<Repair>) -> Option<Likely>
-    ensures { IsFirstChange told.items result }
+fn first_change(reported: Vec<Repair>) -> Option<Likely>
+    ensures { IsFirstChange reported.items result }
 {
-    match told.into_iter().next() {
+    match reported.into_iter().next() {
         Some(repair) => Some(Likely::Change(repair)),
         None => None,
     }
@@ -79,10 +79,10 @@ fn chosen(
     pairs: &[Pair],
     sheets: Vec<SheetRepair>,
 ) -> Option<Likely>
-    ensures { IsLikelyOf alone.now found.told.items (all_known found.left.items found.from) pairs.now sheets.items result }
+    ensures { IsLikelyOf alone.now found.reported.items (all_known found.remaining.items found.from) pairs.now sheets.items result }
 {
     match choice_among(&found, pairs, sheets.as_slice(), alone) {
-        Choice::Clear(_) => first_change(found.told),
+        Choice::Clear(_) => first_change(found.reported),
         Choice::Sheet(_) => first_sheet(sheets),
         Choice::None => None,
         Choice::Open => None,
@@ -131,7 +131,7 @@ fn likely_repair(
         rules,
         list,
         &mut game.events,
-        singles.found.told.as_slice(),
+        singles.found.reported.as_slice(),
         1,
         PAIR_STEPS,
     )?;
@@ -144,7 +144,7 @@ fn likely_repair(
         walk,
         &alone,
     )?;
-    Ok(chosen(&alone, singles.found, two.told.as_slice(), sheets))
+    Ok(chosen(&alone, singles.found, two.reported.as_slice(), sheets))
 }
 
 /// The likely repair of a record that was judged, if it is illegal, given the walk over it and its text. Afterwards the entry is as it was.

@@ -1,22 +1,22 @@
 //! How many changes a record has, and how many of them are tried.
 ghost use Rattle.std.specs.Prelude.{◌≡◌, ◌+◌, ◌<◌, ◌≤◌, ◌^◌, length, IfOk, ◌-◌, ◌*◌, None};
-ghost use Rattle.change_lists.specs.Changes.{changes_at};
-ghost use Rattle.game_rows.specs.Walks.{IsWalkOf};
-ghost use Rattle.repair_answers.specs.Tried.{many_before, many_walked, many_untried, limit_for};
+ghost use Rattle.repair_slips.specs.Changes.{changes_at};
+ghost use Rattle.game_walk.specs.Walks.{IsWalkOf};
+ghost use Rattle.repair_answers.specs.Tried.{count_before, count_walked, count_untried, limit_for};
 
-use change_lists::{law_of_slips, slips_at};
-use game_rows::Walk;
+use game_walk::Walk;
 use gcg_read::Event;
 use lex_list::WordList;
-use record_repairs::game_before;
 use ref_tiles::Rules;
+use repair_single::game_before;
+use repair_slips::{law_of_slips, slips_at};
 use std::alloc::{AllocError, Global};
 
 /// How many steps a search may take at least: about as many as the events that it goes over.
 const STEPS: u64 = 4_000_000;
 
 /// How many changes there are at a place, up to the one after the last row.
-fn many_at(
+fn count_at(
     alloc: Global,
     rules: &Rules,
     list: &WordList,
@@ -40,7 +40,7 @@ fn many_at(
 /// How many changes a record has at the places before `end`.
 ///
 /// It fails only if memory runs out.
-fn many_before(
+fn count_before(
     alloc: Global,
     rules: &Rules,
     list: &WordList,
@@ -50,12 +50,12 @@ fn many_before(
 ) -> Result<u128, AllocError>
     requires walk { IsWalkOf rules.now list.now events.now walk.now }
     requires end { end ≤ length walk.now.rows.items + 1 }
-    ensures many { IfOk result (λ many. many ≡ many_before rules.now events.now end) }
+    ensures many { IfOk result (λ many. many ≡ count_before rules.now events.now end) }
     ensures few { IfOk result (λ many. many ≤ end * 2 ^ 64) }
 {
     let mut many = 0;
     for place in 0..end {
-        many += many_at(alloc, rules, list, walk, events, place)?;
+        many += count_at(alloc, rules, list, walk, events, place)?;
     }
     Ok(many)
 }
@@ -83,10 +83,10 @@ pub(crate) fn search_limit(
     events: &[Event],
 ) -> Result<Option<u64>, AllocError>
     requires { IsWalkOf rules.now list.now events.now walk.now }
-    ensures { IfOk result (λ limit. many_walked rules.now events.now walk.now * length events.now ≤ 4000000 → limit ≡ None) }
+    ensures { IfOk result (λ limit. count_walked rules.now events.now walk.now * length events.now ≤ 4000000 → limit ≡ None) }
 {
     let places = walk.rows.len() + 1;
-    let many = many_before(alloc, rules, list, walk, events, places)?;
+    let many = count_before(alloc, rules, list, walk, events, places)?;
     Ok(limit_for(many, events.len()))
 }
 
@@ -114,13 +114,13 @@ pub(crate) fn tries_from(
     plays: usize,
 ) -> Result<Tries, AllocError>
     requires { IsWalkOf rules.now list.now events.now walk.now }
-    ensures changes { IfOk result (λ tries. tries.changes ≡ many_walked rules.now events.now walk.now + plays) }
+    ensures changes { IfOk result (λ tries. tries.changes ≡ count_walked rules.now events.now walk.now + plays) }
     ensures tried { IfOk result (λ tries. tries.tried ≡ tries.changes - tries.untried) }
-    ensures untried { IfOk result (λ tries. tries.untried ≡ many_untried rules.now events.now walk.now from) }
+    ensures untried { IfOk result (λ tries. tries.untried ≡ count_untried rules.now events.now walk.now from) }
 {
     let places = walk.rows.len() + 1;
-    let many = many_before(alloc, rules, list, walk, events, places)?;
-    let untried = many_before(alloc, rules, list, walk, events, from.min(places))?;
+    let many = count_before(alloc, rules, list, walk, events, places)?;
+    let untried = count_before(alloc, rules, list, walk, events, from.min(places))?;
     let changes = many + plays as u128;
     Ok(Tries {
         changes,

@@ -2,8 +2,8 @@
 ghost use Rattle.std.specs.Prelude.{◌≡◌};
 ghost use Rattle.repair_answers.specs.Choices.{alone_cost};
 
-use game_rows::Numbers;
-use record_repairs::Remains;
+use game_walk::Numbers;
+use repair_single::Remains;
 
 /// What a wrong number costs.
 pub(crate) const NUMBER: u128 = 5;

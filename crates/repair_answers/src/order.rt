@@ -17,10 +17,10 @@ pub enum Item {
 
 /// What the first repair of a line costs.
 fn cost_at(faulty: &Faulty, line: usize) -> u128 {
-    let Some(told) = faulty.lines.as_slice().get(line) else {
+    let Some(reported) = faulty.lines.as_slice().get(line) else {
         return 0;
     };
-    match faulty.found.told.as_slice().get(told.first) {
+    match faulty.found.reported.as_slice().get(reported.first) {
         Some(repair) => cost_of(repair),
         None => 0,
     }

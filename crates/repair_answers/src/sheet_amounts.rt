@@ -4,12 +4,12 @@ ghost use Rattle.lex_check.specs.Pairs.{list_in};
 ghost use Rattle.repair_answers.specs.Amounts.{IsAmountOfRecord, IsAmountOnSheet};
 
 use crate::amounts::amount_repair;
-use call_stages::record_from;
-use game_sheets::WrongNumber;
+use engine_stages::record_from;
+use game_corrections::WrongNumber;
 use gcg_read::Record;
 use lex_check::Checked;
-use record_repairs::Repair;
 use ref_tiles::Rules;
+use repair_single::Repair;
 use std::alloc::{AllocError, Global};
 
 /// A record, and the bonus or the penalty that would explain its numbers.

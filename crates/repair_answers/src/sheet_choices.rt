@@ -1,6 +1,6 @@
 //! Whether a slip of the whole sheet is the likeliest repair by far.
 ghost use Rattle.std.specs.Prelude.{◌≡◌, ◌↔◌, ◌∷◌, true, [], All, IsTrue, List, Option, slice_get};
-ghost use Rattle.record_repairs.specs.declared.repair.Repair.{Repair};
+ghost use Rattle.repair_single.specs.declared.repair.Repair.{Repair};
 ghost use Rattle.repair_pairs.specs.declared.found.Pair.{Pair};
 ghost use Rattle.repair_answers.specs.declared.sheet_repair.SheetRepair.{SheetRepair};
 ghost use Rattle.repair_answers.specs.declared.numbers_alone.NumbersAlone.{NumbersAlone};
@@ -11,10 +11,10 @@ use crate::choices::{Choice, cost_of, is_far_below};
 use crate::numbers_alone::NumbersAlone;
 use crate::sheet_repair::SheetRepair;
 use gcg_read::Event;
-use record_changes::Slip;
-use record_repairs::Repair;
+use repair_changes::Slip;
 use repair_pairs::Pair;
-use sheet_slips::SheetSlip;
+use repair_sheets::SheetSlip;
+use repair_single::Repair;
 
 /// Whether a cost is at least a wrong number below that of the first of some slips of the whole sheet.
 fn is_below_sheets(cost: u128, sheets: &[SheetRepair]) -> bool
@@ -69,10 +69,10 @@ fn is_ahead_of(first: &SheetRepair, repair: &Repair) -> bool
 }
 
 /// Whether a slip of the whole sheet is ahead of all repairs.
-fn is_ahead_of_all(first: &SheetRepair, told: &[Repair]) -> bool
-    ensures { IsTrue result ↔ All (IsAheadOfRepair first.now) told.now }
+fn is_ahead_of_all(first: &SheetRepair, reported: &[Repair]) -> bool
+    ensures { IsTrue result ↔ All (IsAheadOfRepair first.now) reported.now }
 {
-    told.iter().all(|repair| is_ahead_of(first, repair))
+    reported.iter().all(|repair| is_ahead_of(first, repair))
 }
 
 /// Whether a cost is at least a wrong number below that of the cheapest of some pairs.
@@ -99,15 +99,15 @@ fn is_below_numbers(cost: u128, alone: &Option<NumbersAlone>) -> bool
 fn is_sheet_ahead(
     first: &SheetRepair,
     rest: &[SheetRepair],
-    told: &[Repair],
+    reported: &[Repair],
     pairs: &[Pair],
     alone: &Option<NumbersAlone>,
 ) -> bool
-    ensures { IsTrue result ↔ IsSheetAhead first.now rest.now told.now pairs.now alone.now }
+    ensures { IsTrue result ↔ IsSheetAhead first.now rest.now reported.now pairs.now alone.now }
 {
     let cost = first.cost;
     is_below_sheets(cost, rest)
-        && is_ahead_of_all(first, told)
+        && is_ahead_of_all(first, reported)
         && is_below_pairs(cost, pairs)
         && is_below_numbers(cost, alone)
 }
@@ -115,8 +115,8 @@ fn is_sheet_ahead(
 /// The choice, if the first slip of the whole sheet is ahead of all else.
 #[tactic(auto, using(crate::proofs::SheetChoices::sheet_ahead))]
 fn by_sheet(first: &SheetRepair) -> Choice<'_>
-    ensures { (told : List Repair) (pairs : List Pair) (alone : Option NumbersAlone) (rest : List SheetRepair)
-        → IsSheetAhead first.now rest told pairs alone → IsChoice told true pairs (first.now ∷ rest) alone result }
+    ensures { (reported : List Repair) (pairs : List Pair) (alone : Option NumbersAlone) (rest : List SheetRepair)
+        → IsSheetAhead first.now rest reported pairs alone → IsChoice reported true pairs (first.now ∷ rest) alone result }
 {
     if !first.alone.is_game {
         Choice::Open
@@ -140,8 +140,8 @@ fn are_numbers_below(alone: &Option<NumbersAlone>, first: &SheetRepair) -> bool
 /// The choice, if it would be to correct only the numbers without this slip of the whole sheet: that has to be ahead of the slip.
 #[tactic(auto, using(crate::proofs::SheetChoices::numbers_beside))]
 fn numbers_beside<'a>(alone: &Option<NumbersAlone>, first: &'a SheetRepair) -> Choice<'a>
-    ensures { (told : List Repair) (pairs : List Pair) (rest : List SheetRepair) → (IsSheetAhead first.now rest told pairs alone.now → ⊥)
-        → IsChoice told true pairs [] alone.now choice.Numbers → IsChoice told true pairs (first.now ∷ rest) alone.now result }
+    ensures { (reported : List Repair) (pairs : List Pair) (rest : List SheetRepair) → (IsSheetAhead first.now rest reported pairs alone.now → ⊥)
+        → IsChoice reported true pairs [] alone.now choice.Numbers → IsChoice reported true pairs (first.now ∷ rest) alone.now result }
 {
     if are_numbers_below(alone, first) {
         Choice::Numbers
@@ -153,8 +153,8 @@ fn numbers_beside<'a>(alone: &Option<NumbersAlone>, first: &'a SheetRepair) -> C
 /// The choice, if it would be a repair without this slip of the whole sheet: the repair has to be ahead of the slip.
 #[tactic(auto, using(crate::proofs::SheetChoices::repair_beside))]
 fn repair_beside<'a>(repair: &'a Repair, first: &SheetRepair) -> Choice<'a>
-    ensures { (told : List Repair) (pairs : List Pair) (alone : Option NumbersAlone) (rest : List SheetRepair) → (IsSheetAhead first.now rest told pairs alone → ⊥)
-        → IsChoice told true pairs [] alone (choice.Clear repair.entry) → IsChoice told true pairs (first.now ∷ rest) alone result }
+    ensures { (reported : List Repair) (pairs : List Pair) (alone : Option NumbersAlone) (rest : List SheetRepair) → (IsSheetAhead first.now rest reported pairs alone → ⊥)
+        → IsChoice reported true pairs [] alone (choice.Clear repair.entry) → IsChoice reported true pairs (first.now ∷ rest) alone result }
 {
     if is_far_below(cost_of(repair), first.cost) {
         Choice::Clear(repair)
@@ -170,8 +170,8 @@ fn beside_sheet<'a>(
     alone: &Option<NumbersAlone>,
     first: &'a SheetRepair,
 ) -> Choice<'a>
-    ensures { (told : List Repair) (pairs : List Pair) (rest : List SheetRepair) → (IsSheetAhead first.now rest told pairs alone.now → ⊥)
-        → IsChoice told true pairs [] alone.now choice.entry → IsChoice told true pairs (first.now ∷ rest) alone.now result }
+    ensures { (reported : List Repair) (pairs : List Pair) (rest : List SheetRepair) → (IsSheetAhead first.now rest reported pairs alone.now → ⊥)
+        → IsChoice reported true pairs [] alone.now choice.entry → IsChoice reported true pairs (first.now ∷ rest) alone.now result }
 {
     match choice {
         Choice::None => Choice::NearSheet,
@@ -190,14 +190,14 @@ pub(crate) fn with_sheets<'a>(
     without: Choice<'a>,
     first: &'a SheetRepair,
     rest: &[SheetRepair],
-    told: &[Repair],
+    reported: &[Repair],
     pairs: &[Pair],
     alone: &Option<NumbersAlone>,
 ) -> Choice<'a>
-    requires { IsChoice told.now true pairs.now [] alone.now without }
-    ensures { IsChoice told.now true pairs.now (first.now ∷ rest.now) alone.now result }
+    requires { IsChoice reported.now true pairs.now [] alone.now without }
+    ensures { IsChoice reported.now true pairs.now (first.now ∷ rest.now) alone.now result }
 {
-    if is_sheet_ahead(first, rest, told, pairs, alone) {
+    if is_sheet_ahead(first, rest, reported, pairs, alone) {
         by_sheet(first)
     } else {
         beside_sheet(without, alone, first)

@@ -2,7 +2,7 @@
 
 use crate::numbers_alone::NumbersAlone;
 use gcg_read::Events;
-use sheet_slips::SheetSlip;
+use repair_sheets::SheetSlip;
 
 /// Events with their right numbers.
 #[derive(Drop)]

@@ -1,19 +1,19 @@
 //! Slips of the whole sheet that repair a record.
 ghost use Rattle.std.specs.Prelude.{◌≡◌, ◌<◌, ◌≤◌, ◌+◌, [], length, slice_get, IfOk, OnOk};
 ghost use Rattle.std.specs.Option.{option_copied};
-ghost use Rattle.sheet_slips.specs.BadListing.{bad_slips};
-ghost use Rattle.sheet_slips.specs.Weights.{weight_of};
+ghost use Rattle.repair_sheets.specs.BadListing.{bad_slips};
+ghost use Rattle.repair_sheets.specs.Weights.{weight_of};
 ghost use Rattle.repair_answers.specs.Choices.{alone_cost};
-ghost use Rattle.repair_answers.specs.Sheets.{slip_places, slips_tried, many_wrong, sheet_room, IsRighted, IsTrial, AreFoundTo, AreSheetRepairs};
+ghost use Rattle.repair_answers.specs.Sheets.{slip_places, slips_tried, count_wrong, sheet_room, IsRighted, IsTrial, AreFoundTo, AreSheetRepairs};
 
 use crate::numbers_alone::NumbersAlone;
 use crate::sheet_repair::{Righted, SheetRepair};
 use crate::unchanged::unchanged;
-use game_rows::{Walk, renumber};
+use game_walk::{Walk, renumber};
 use gcg_read::{Event, Events, Players, Record};
 use lex_list::WordList;
 use ref_tiles::Rules;
-use sheet_slips::{SheetSlip, bad_slips, sheet_slips, weight_of, without_slip};
+use repair_sheets::{SheetSlip, bad_slips, sheet_slips, weight_of, without_slip};
 use std::alloc::{AllocError, Global};
 
 /// At how many places a slip may begin that runs through the sheet.
@@ -32,8 +32,8 @@ fn slip_places(events: &[Event], walk: &Walk) -> usize
 }
 
 /// How many numbers and words are wrong if only the numbers are.
-fn many_wrong(alone: &NumbersAlone) -> usize
-    ensures { result ≡ many_wrong alone.now }
+fn count_wrong(alone: &NumbersAlone) -> usize
+    ensures { result ≡ count_wrong alone.now }
 {
     alone.remains.wrong.len() + alone.remains.unlisted.len()
 }
@@ -43,7 +43,7 @@ fn sheet_room(alone: &Option<NumbersAlone>) -> usize
     ensures { result ≡ sheet_room alone.now }
 {
     match alone {
-        Some(alone) => many_wrong(alone).min(FEWER_THAN),
+        Some(alone) => count_wrong(alone).min(FEWER_THAN),
         None => FEWER_THAN,
     }
 }
@@ -107,7 +107,7 @@ fn tried(
     let Some(righted) = put_right(alloc, rules, list, made)? else {
         return Ok(None);
     };
-    if many_wrong(&righted.alone) >= room {
+    if count_wrong(&righted.alone) >= room {
         return Ok(None);
     }
     Ok(Some(repair_with(number, slip, righted)))

@@ -1,20 +1,20 @@
 //! The first repairs of a record by one change: of the list and, if none of these is a likely one, also of plays that a search finds.
 ghost use Rattle.std.specs.Prelude.{◌≡◌, None, IfOk, OnOk};
 ghost use Rattle.lex_check.specs.Pairs.{list_in};
-ghost use Rattle.play_changes.specs.PlayChanges.{ArePlayChanges};
-ghost use Rattle.record_repairs.specs.Repairs.{AreFirstRepairs};
-ghost use Rattle.repair_answers.specs.Trades.{AreTold};
+ghost use Rattle.repair_plays.specs.PlayChanges.{ArePlayChanges};
+ghost use Rattle.repair_single.specs.Repairs.{AreFirstRepairs};
+ghost use Rattle.repair_answers.specs.Trades.{AreReported};
 
 use crate::choices::cost_of;
 use crate::numbers_alone::{NUMBER, NumbersAlone};
-use crate::trades::keep_told;
-use game_rows::Walk;
+use crate::trades::keep_reported;
+use game_walk::Walk;
 use gcg_read::Events;
 use lex_check::Checked;
-use play_changes::plays_for;
-use record_changes::Change;
-use record_repairs::{Found, repairs};
 use ref_tiles::Rules;
+use repair_changes::Change;
+use repair_plays::plays_for;
+use repair_single::{Found, repairs};
 use std::alloc::{AllocError, Global};
 
 /// The first repairs of a record, and the plays that were tried in addition to the changes of the list.
@@ -28,7 +28,7 @@ pub(crate) struct Singles {
 
 /// Whether the first repair costs no more than a wrong number.
 fn has_likely(found: &Found) -> bool {
-    match found.told.as_slice() {
+    match found.reported.as_slice() {
         [first, ..] => cost_of(first) <= NUMBER,
         [] => false,
     }
@@ -54,7 +54,7 @@ fn with_plays(
     limit: Option<u64>,
 ) -> Result<Singles, AllocError>
     ensures plays { IfOk result (λ s. s.plays ≡ plays) }
-    ensures told { IfOk result (λ s. AreFirstRepairs rules.now (list_in pair.now) events.old plays.items below s.found.from most s.found.told.items s.found.left.items) }
+    ensures reported { IfOk result (λ s. AreFirstRepairs rules.now (list_in pair.now) events.old plays.items below s.found.from most s.found.reported.items s.found.remaining.items) }
     ensures all { IfOk result (λ s. limit ≡ None → s.found.from ≡ 0) }
     ensures same { OnOk result (events.new ≡ events.old) }
 {
@@ -84,7 +84,7 @@ fn found_repairs(
     most: usize,
     limit: Option<u64>,
 ) -> Result<Singles, AllocError>
-    ensures told { IfOk result (λ s. AreFirstRepairs rules.now (list_in pair.now) events.old s.plays.items below s.found.from most s.found.told.items s.found.left.items) }
+    ensures reported { IfOk result (λ s. AreFirstRepairs rules.now (list_in pair.now) events.old s.plays.items below s.found.from most s.found.reported.items s.found.remaining.items) }
     ensures plays { IfOk result (λ s. ArePlayChanges events.old walk.now s.plays.items) }
     ensures all { IfOk result (λ s. limit ≡ None → s.found.from ≡ 0) }
     ensures same { OnOk result (events.new ≡ events.old) }
@@ -125,12 +125,12 @@ pub(crate) fn first_repairs(
     most: usize,
     limit: Option<u64>,
 ) -> Result<Singles, AllocError>
-    ensures told { IfOk result (λ s. AreTold rules.now (list_in pair.now) events.old alone.now s.plays.items below s.found.from most s.found.told.items s.found.left.items) }
+    ensures reported { IfOk result (λ s. AreReported rules.now (list_in pair.now) events.old alone.now s.plays.items below s.found.from most s.found.reported.items s.found.remaining.items) }
     ensures plays { IfOk result (λ s. ArePlayChanges events.old walk.now s.plays.items) }
     ensures all { IfOk result (λ s. limit ≡ None → s.found.from ≡ 0) }
     ensures same { OnOk result (events.new ≡ events.old) }
 {
     let mut singles = found_repairs(alloc, rules, pair, walk, events, below, most, limit)?;
-    keep_told(alone, &mut singles.found.told);
+    keep_reported(alone, &mut singles.found.reported);
     Ok(singles)
 }

@@ -1,10 +1,10 @@
 //! Repairs that only avoid a word that is not in the list, in a record that was perhaps played with another one.
 ghost use Rattle.std.specs.Prelude.{◌≡◌, filter};
-ghost use Rattle.repair_answers.specs.Trades.{is_trade, rights_none, avoids_word, is_told};
+ghost use Rattle.repair_answers.specs.Trades.{is_trade, rights_none, avoids_word, is_reported};
 
 use crate::numbers_alone::NumbersAlone;
-use record_changes::{Slip, SpellingSlip};
-use record_repairs::Repair;
+use repair_changes::{Slip, SpellingSlip};
+use repair_single::Repair;
 
 /// How many words that are not in the list may come from slips: if there are more, the game was perhaps played with another list.
 pub const WORDS_OF_SLIPS: usize = 3;
@@ -36,8 +36,8 @@ fn avoids_word(alone: &NumbersAlone, repair: &Repair) -> bool
 }
 
 /// Whether a repair is told: it is not one that only avoids a word.
-fn is_told(alone: &Option<NumbersAlone>, repair: &Repair) -> bool
-    ensures { result ≡ is_told alone.now repair.now }
+fn is_reported(alone: &Option<NumbersAlone>, repair: &Repair) -> bool
+    ensures { result ≡ is_reported alone.now repair.now }
 {
     match alone {
         Some(alone) => !avoids_word(alone, repair),
@@ -46,8 +46,8 @@ fn is_told(alone: &Option<NumbersAlone>, repair: &Repair) -> bool
 }
 
 /// Keeps only the repairs that are told.
-pub(crate) fn keep_told(alone: &Option<NumbersAlone>, repairs: &mut Vec<Repair>)
-    ensures { repairs.new.items ≡ filter (is_told alone.now) repairs.old.items }
+pub(crate) fn keep_reported(alone: &Option<NumbersAlone>, repairs: &mut Vec<Repair>)
+    ensures { repairs.new.items ≡ filter (is_reported alone.now) repairs.old.items }
 {
-    repairs.retain(|repair| is_told(alone, repair));
+    repairs.retain(|repair| is_reported(alone, repair));
 }

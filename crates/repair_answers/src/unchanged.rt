@@ -1,23 +1,23 @@
 //! A record with no change except to its numbers.
 ghost use Rattle.std.specs.Prelude.{◌≡◌, ◌++◌, filter, IfOk, OnOk};
-ghost use Rattle.event_notes.specs.Unlisted.{letters_in};
+ghost use Rattle.game_bests.specs.Unlisted.{letters_in};
 ghost use Rattle.game_turns.specs.Passing.{rules_in, record_in, list_in};
 ghost use Rattle.game_turns.specs.Places.{AreAllowed};
-ghost use Rattle.game_rows.specs.Walks.{GoesThrough};
-ghost use Rattle.record_repairs.specs.Remaining.{is_on_line, words_of_rows};
-ghost use Rattle.repair_answers.specs.Unchanged.{IsFound, IsUnchanged, AreLeft, HasOtherNumbers};
+ghost use Rattle.game_walk.specs.Walks.{GoesThrough};
+ghost use Rattle.repair_single.specs.Remaining.{is_on_line, words_of_rows};
+ghost use Rattle.repair_answers.specs.Unchanged.{IsFound, IsUnchanged, AreRemaining, HasOtherNumbers};
 
 use crate::numbers_alone::NumbersAlone;
 use deal_cuts::law_of_fronts;
-use event_notes::{SpelledWord, unlisted_of};
+use game_bests::{SpelledWord, unlisted_of};
+use game_corrections::{WrongNumber, law_of_points};
 use game_deal::{RackFinding, law_of_bounds, settle_racks};
-use game_rows::{Audited, Row, Walk, audit, numbers_of, renumber};
-use game_sheets::{WrongNumber, law_of_points};
 use game_turns::Passed;
+use game_walk::{Audited, Row, Walk, audit, numbers_of, renumber};
 use gcg_read::Record;
 use lex_list::WordList;
-use record_repairs::Remains;
 use ref_tiles::Rules;
+use repair_single::Remains;
 use std::alloc::{AllocError, Global};
 
 /// Whether a number is on a line, and not the last total of a player, which the lines give too.
@@ -38,7 +38,7 @@ fn keep_lines(wrong: &mut Vec<WrongNumber>)
 }
 
 /// Appends words to others.
-#[tactic(auto, using(record_repairs::proofs::Weighing::letters_joined))]
+#[tactic(auto, using(repair_single::proofs::Weighing::letters_joined))]
 fn push_words(words: &mut Vec<SpelledWord>, mut more: Vec<SpelledWord>) -> Result<(), AllocError>
     ensures { OnOk result (letters_in words.new.items ≡ letters_in words.old.items ++ letters_in more.items) }
 {
@@ -56,15 +56,15 @@ fn unlisted_words(
 {
     let mut words = Vec::new(alloc);
     for row in rows {
-        let more = unlisted_of(alloc, list, row.behind.standing_words())?;
+        let more = unlisted_of(alloc, list, row.following.standing_words())?;
         push_words(&mut words, more)?;
     }
     Ok(words)
 }
 
 /// What is left of an audit, without the last totals.
-fn left_of(alloc: Global, list: &WordList, audited: Audited) -> Result<Remains, AllocError>
-    ensures { IfOk result (AreLeft list.now audited.wrong.items audited.walk.rows.items) }
+fn remaining_of(alloc: Global, list: &WordList, audited: Audited) -> Result<Remains, AllocError>
+    ensures { IfOk result (AreRemaining list.now audited.wrong.items audited.walk.rows.items) }
 {
     let unlisted = unlisted_words(alloc, list, audited.walk.rows.as_slice())?;
     let mut wrong = audited.wrong;
@@ -73,7 +73,7 @@ fn left_of(alloc: Global, list: &WordList, audited: Audited) -> Result<Remains, 
 }
 
 /// Whether a deal was found of the racks of a record that passed; none if no deal yields them.
-#[tactic(auto, using(game_deal::proofs::Outcomes::a_game, game_deal::proofs::Outcomes::none_past, game_deal::proofs::Outcomes::none_by, game_deal::proofs::FoundRacks::left_open))]
+#[tactic(auto, using(game_deal::proofs::Outcomes::a_game, game_deal::proofs::Outcomes::none_past, game_deal::proofs::Outcomes::none_by, game_deal::proofs::FoundRacks::remains_open))]
 fn is_dealt(alloc: Global, passed: &Passed<'_>) -> Result<Option<bool>, AllocError>
     requires { AreAllowed (rules_in passed.now) (list_in passed.now) (record_in passed.now).events }
     ensures { IfOk result (IsFound (rules_in passed.now) (list_in passed.now) (record_in passed.now).events) }
@@ -124,7 +124,7 @@ fn with_right_numbers(
         return Ok(None);
     };
     let right = numbers_of(alloc, game.events.as_slice())?;
-    let remains = left_of(alloc, list, audited)?;
+    let remains = remaining_of(alloc, list, audited)?;
     Ok(Some(NumbersAlone {
         remains,
         right,

@@ -2,8 +2,8 @@
 use Rattle.std.specs.Prelude.{◌≡◌, ℕ, ◌≤◌, List, [], ◌∷◌, length, Option, Some, None}
 use Rattle.ref_tiles.specs.declared.rulebook.Rules.{Rules}
 use Rattle.gcg_read.specs.declared.events.Event.{Event}
-use Rattle.record_repairs.specs.Repairs.{IsRepair}
-use Rattle.record_repairs.specs.declared.repair.Repair.{Repair}
+use Rattle.repair_single.specs.Repairs.{IsRepair}
+use Rattle.repair_single.specs.declared.repair.Repair.{Repair}
 use Rattle.repair_pairs.specs.Pairs.{ConcernsSheet, WrongOnSheet, IsStep}
 use Rattle.repair_pairs.specs.declared.found.Head.{Head}
 use Rattle.repair_chains.specs.declared.chains.Chain.{Chain}

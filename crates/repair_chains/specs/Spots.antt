@@ -2,11 +2,11 @@
 use Rattle.std.specs.Prelude.{ℕ, ◌==◌, Bool, not, List, drop, Option, Some, None, option_map, if◌then◌else◌}
 use Rattle.std.specs.List.{find, fold}
 use Rattle.gcg_read.specs.declared.events.Event.{Event}
-use Rattle.record_changes.specs.declared.slips.Change.{Change}
-use Rattle.record_changes.specs.declared.slips.Slip.{Slip}
-use Rattle.record_changes.specs.declared.slips.Slip.TheVariants as slip
-use Rattle.record_changes.specs.declared.spots.Spot.{Spot}
-use Rattle.record_changes.specs.declared.spots.Spot.TheVariants as spot
+use Rattle.repair_changes.specs.declared.slips.Change.{Change}
+use Rattle.repair_changes.specs.declared.slips.Slip.{Slip}
+use Rattle.repair_changes.specs.declared.slips.Slip.TheVariants as slip
+use Rattle.repair_changes.specs.declared.spots.Spot.{Spot}
+use Rattle.repair_changes.specs.declared.spots.Spot.TheVariants as spot
 
 -- the event is in the file: one that a change added is on no line
 abbrev pub is_in_file : Event → Bool
@@ -29,7 +29,7 @@ before_or_on (slip.Missing missing) line = spot.Before line
 before_or_on other line = spot.On line
 
 abbrev pub spot_by : Slip → (next : Option ℕ) → (last : ℕ) → Spot
-spot_by what None last = spot.Behind last
+spot_by what None last = spot.After last
 spot_by what (Some line) last = before_or_on what line
 
 -- by the events that the changes before it make

@@ -1,17 +1,17 @@
 //! The chain of the cheapest changes.
 ghost use Rattle.std.specs.Prelude.{◌≡◌, ◌≤◌, ◌+◌, ◌-◌, ◌*◌, ◌∷◌, [], None, IsTrue, IfOk, IfSome, OnOk, length, map, sum, if◌then◌else◌};
-ghost use Rattle.record_repairs.specs.Repairs.{IsRepair};
+ghost use Rattle.repair_single.specs.Repairs.{IsRepair};
 ghost use Rattle.repair_pairs.specs.Pairs.{ConcernsSheet, WrongOnSheet};
-ghost use Rattle.record_changes.specs.Numbers.{leaves_out};
+ghost use Rattle.repair_changes.specs.Numbers.{leaves_out};
 ghost use Rattle.repair_chains.specs.Chains.{IsFirst, IsLast, IsChain};
-ghost use Rattle.repair_chains.specs.Totals.{chain_cost, chain_numbers, chain_weight, left_of, step_weight};
+ghost use Rattle.repair_chains.specs.Totals.{chain_cost, chain_numbers, chain_weight, remaining_of, step_weight};
 
 use gcg_read::{Event, Events};
 use lex_list::WordList;
-use record_changes::{Slip, numbers_with, weight_of};
-use record_repairs::{Found, Repair, repairs};
 use ref_tiles::Rules;
+use repair_changes::{Slip, numbers_with, weight_of};
 use repair_pairs::{Head, first_step, is_of_sheet};
+use repair_single::{Found, Repair, repairs};
 use std::alloc::{AllocError, Global};
 
 /// The maximum number of changes before the last one.
@@ -47,14 +47,14 @@ fn without(slip: &Slip, events: usize) -> usize
 }
 
 /// How many events a sheet of `events` events has without the lines that changes leave out.
-fn left_of(steps: &[Head], events: usize) -> usize
-    ensures { result ≡ left_of steps.now events }
+fn remaining_of(steps: &[Head], events: usize) -> usize
+    ensures { result ≡ remaining_of steps.now events }
 {
-    let mut left = events;
+    let mut remaining = events;
     for step in steps {
-        left = without(&step.first.change.slip, left);
+        remaining = without(&step.first.change.slip, remaining);
     }
-    left
+    remaining
 }
 
 /// What changes weigh.
@@ -76,7 +76,7 @@ impl Chain {
     {
         numbers_with(
             &self.last.listed.change.slip,
-            left_of(self.steps.as_slice(), events),
+            remaining_of(self.steps.as_slice(), events),
         )
     }
 
@@ -100,9 +100,9 @@ impl Chain {
 
 /// The first of the repairs that were found.
 fn first_of(found: Found) -> Option<Repair>
-    ensures { IsFirst found.told.items result }
+    ensures { IsFirst found.reported.items result }
 {
-    found.told.into_iter().next()
+    found.reported.into_iter().next()
 }
 
 /// The likeliest repair of a record, if there is one.
@@ -169,19 +169,19 @@ fn with_step(step: Head, chain: Chain) -> Result<Chain, AllocError>
     Ok(chain)
 }
 
-/// A chain of at most `left` steps and a last change, of which the first step costs less than `below`, and each change after it less than a number more.
+/// A chain of at most `remaining` steps and a last change, of which the first step costs less than `below`, and each change after it less than a number more.
 fn go_on(
     alloc: Global,
     rules: &Rules,
     list: &WordList,
     events: &mut Events,
-    left: u8,
+    remaining: u8,
     below: u128,
 ) -> Result<Option<Chain>, AllocError>
-    ensures told { IfOk result (λ told. IfSome told (IsChain rules.now list.now events.old left)) }
+    ensures reported { IfOk result (λ reported. IfSome reported (IsChain rules.now list.now events.old remaining)) }
     ensures same { OnOk result (events.new ≡ events.old) }
 {
-    if left == 0 {
+    if remaining == 0 {
         return Ok(None);
     }
     let Some(mut step) = first_step(alloc, rules, list, events, below, LIMIT)? else {
@@ -191,7 +191,7 @@ fn go_on(
     if let Some(last) = last_of(alloc, rules, list, &mut step.made, more)? {
         return Ok(Some(two(alloc, step, last)?));
     }
-    let Some(rest) = go_on(alloc, rules, list, &mut step.made, left - 1, more)? else {
+    let Some(rest) = go_on(alloc, rules, list, &mut step.made, remaining - 1, more)? else {
         return Ok(None);
     };
     Ok(Some(with_step(step, rest)?))
@@ -211,7 +211,7 @@ pub fn find_chain(
     list: &WordList,
     events: &mut Events,
 ) -> Result<Option<Chain>, AllocError>
-    ensures told { IfOk result (λ told. IfSome told (IsChain rules.now list.now events.old 7)) }
+    ensures reported { IfOk result (λ reported. IfSome reported (IsChain rules.now list.now events.old 7)) }
     ensures same { OnOk result (events.new ≡ events.old) }
 {
     go_on(alloc, rules, list, events, MOST_STEPS, NUMBER)

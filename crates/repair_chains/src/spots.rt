@@ -5,7 +5,7 @@ ghost use Rattle.std.specs.Option.{option_copied};
 ghost use Rattle.repair_chains.specs.Spots.{before_or_on, end_line, is_in_file, later_spot, next_line};
 
 use gcg_read::Event;
-use record_changes::{Change, Slip, Spot};
+use repair_changes::{Change, Slip, Spot};
 
 /// The events from a place on.
 fn events_from(events: &[Event], place: usize) -> &[Event]
@@ -64,6 +64,6 @@ pub fn later_spot(made: &[Event], change: &Change) -> Spot
 {
     match next_line(made, change.place) {
         Some(line) => before_or_on(&change.slip, line),
-        None => Spot::Behind(end_line(made)),
+        None => Spot::After(end_line(made)),
     }
 }

@@ -4,20 +4,20 @@ use Rattle.std.specs.List.{filter_map}
 use Rattle.std.specs.Option.{option_and_then}
 use Rattle.json.specs.Json.{Json, boolean, null, string}
 use Rattle.json_trees.specs.Values.{Field, array_of, count, object_of, or_null}
-use Rattle.call_stages.specs.declared.verdicts.Verdict.{Verdict}
+use Rattle.engine_stages.specs.declared.verdicts.Verdict.{Verdict}
 use Rattle.gcg_read.specs.declared.events.Event.{Event}
 use Rattle.gcg_read.specs.declared.records.Record.{Record}
-use Rattle.record_repairs.specs.declared.repair.Repair.{Repair}
+use Rattle.repair_single.specs.declared.repair.Repair.{Repair}
 use Rattle.repair_chains.specs.declared.chains.Chain.{Chain}
 use Rattle.repair_pairs.specs.declared.found.Pair.{Pair}
 use Rattle.repair_pairs.specs.declared.found.Pairs.{Pairs}
 use Rattle.repair_answers.specs.declared.answers.Faulty.{Faulty}
 use Rattle.repair_answers.specs.declared.answers.RepairAnswer.{RepairAnswer}
-use Rattle.repair_answers.specs.declared.evidence.Told.{Told}
+use Rattle.repair_answers.specs.declared.evidence.Reported.{Reported}
 use Rattle.repair_answers.specs.declared.numbers_alone.NumbersAlone.{NumbersAlone}
-use Rattle.unread_lines.specs.declared.lines.UnreadLine.{UnreadLine}
-use Rattle.answer_json.specs.Values.{unread_value}
-use Rattle.answer_json.specs.Verdicts.{ending_value, fault_line_value, fault_value, verdict_word}
+use Rattle.gcg_unread.specs.declared.lines.UnreadLine.{UnreadLine}
+use Rattle.json_base.specs.Values.{unread_value}
+use Rattle.json_base.specs.Verdicts.{ending_value, fault_line_value, fault_value, verdict_word}
 use Rattle.repair_json.specs.Chains.{chain_value}
 use Rattle.repair_json.specs.Changes.{repair_object}
 use Rattle.repair_json.specs.Evidence.{evidence_object}
@@ -36,22 +36,22 @@ abbrev pub settled_value : Option NumbersAlone → Json
 settled_value alone = or_null (option_map (λ it. boolean it.is_game) alone)
 
 -- the repairs, one for each line that is told
-abbrev pub told_repair : Record → List Repair → Told → Option Json
-told_repair r repairs told =
-    option_map (λ repair. repair_object r.players r.events repairs repair told.others.items) (slice_get repairs told.first)
+abbrev pub reported_repair : Record → List Repair → Reported → Option Json
+reported_repair r repairs reported =
+    option_map (λ repair. repair_object r.players r.events repairs repair reported.others.items) (slice_get repairs reported.first)
 
-abbrev pub repairs_value : Record → (repairs : List Repair) → (lines : List Told) → Json
-repairs_value r repairs lines = array_of (filter_map (told_repair r repairs) lines)
+abbrev pub repairs_value : Record → (repairs : List Repair) → (lines : List Reported) → Json
+repairs_value r repairs lines = array_of (filter_map (reported_repair r repairs) lines)
 
 -- the pairs, one for each line that is told
 abbrev pub pair_with : Record → Pairs → (others : List ℕ) → Pair → Option Json
-pair_with r pairs others pair = option_map (λ head. pair_object r pairs.told.items head pair others) (slice_get pairs.heads.items pair.head)
+pair_with r pairs others pair = option_map (λ head. pair_object r pairs.reported.items head pair others) (slice_get pairs.heads.items pair.head)
 
-abbrev pub told_pair : Record → Pairs → Told → Option Json
-told_pair r pairs told = option_and_then (pair_with r pairs told.others.items) (slice_get pairs.told.items told.first)
+abbrev pub reported_pair : Record → Pairs → Reported → Option Json
+reported_pair r pairs reported = option_and_then (pair_with r pairs reported.others.items) (slice_get pairs.reported.items reported.first)
 
-abbrev pub pairs_value : Record → Pairs → (lines : List Told) → Json
-pairs_value r pairs lines = array_of (filter_map (told_pair r pairs) lines)
+abbrev pub pairs_value : Record → Pairs → (lines : List Reported) → Json
+pairs_value r pairs lines = array_of (filter_map (reported_pair r pairs) lines)
 
 -- of an illegal record its verdict, whether its numbers alone may be wrong, the repairs, the pairs, the chain, how many changes are left open, how many were
 -- tried and how many not, the slips of the whole sheet, and the lines that are not read
@@ -62,10 +62,10 @@ faulty_fields r v faulty chain unread =
     ∷ (codes "fault", fault_value v)
     ∷ (codes "ending", ending_value v)
     ∷ (codes "numbers_alone", alone_value r.events faulty.alone)
-    ∷ (codes "repairs", repairs_value r faulty.found.told.items faulty.lines.items)
+    ∷ (codes "repairs", repairs_value r faulty.found.reported.items faulty.lines.items)
     ∷ (codes "pairs", pairs_value r faulty.pairs faulty.pair_lines.items)
     ∷ (codes "chain", chain_value r chain)
-    ∷ (codes "left", count (length faulty.found.left.items))
+    ∷ (codes "left", count (length faulty.found.remaining.items))
     ∷ (codes "tried", count faulty.tried)
     ∷ (codes "untried", count faulty.untried)
     ∷ (codes "numbers_alone_settled", settled_value faulty.alone)

@@ -2,15 +2,15 @@
 use Rattle.std.specs.Prelude.{ℕ, ◌*◌, List, [], ◌∷◌, ◌++◌, codes, length, map, Option, Some, None}
 use Rattle.json.specs.Json.{Json, boolean, null, string}
 use Rattle.json_trees.specs.Values.{Field, array_of, count, object_of}
-use Rattle.call_stages.specs.declared.input_faults.InputFault.TheVariants as input
+use Rattle.engine_stages.specs.declared.input_faults.InputFault.TheVariants as input
 use Rattle.gcg_read.specs.declared.faults.ReadFault.{ReadFault}
-use Rattle.sheet_slips.specs.declared.slips.SheetSlip.{SheetSlip}
-use Rattle.sheet_slips.specs.declared.slips.SheetSlip.TheVariants as sheet
-use Rattle.sheet_slips.specs.Weights.{weight_of}
+use Rattle.repair_sheets.specs.declared.slips.SheetSlip.{SheetSlip}
+use Rattle.repair_sheets.specs.declared.slips.SheetSlip.TheVariants as sheet
+use Rattle.repair_sheets.specs.Weights.{weight_of}
 use Rattle.repair_answers.specs.declared.bad_records.LineRepairs.{LineRepairs}
 use Rattle.repair_answers.specs.declared.sheet_repair.SheetRepair.{SheetRepair}
-use Rattle.answer_json.specs.Refusals.{refused_fields}
-use Rattle.answer_json.specs.Values.{place_value}
+use Rattle.json_base.specs.Refusals.{refused_fields}
+use Rattle.json_base.specs.Values.{place_value}
 use Rattle.repair_json.specs.Evidence.{evidence_object}
 use Rattle.repair_json.specs.Slips.{sheet_slip_name}
 

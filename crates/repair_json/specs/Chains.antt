@@ -5,8 +5,8 @@ use Rattle.json_trees.specs.Values.{Field, array_of, count, object_of, or_null}
 use Rattle.gcg_read.specs.declared.events.Event.{Event}
 use Rattle.gcg_read.specs.declared.players.Players.{Players}
 use Rattle.gcg_read.specs.declared.records.Record.{Record}
-use Rattle.record_changes.specs.Spots.{spot_of}
-use Rattle.record_repairs.specs.declared.repair.Repair.{Repair}
+use Rattle.repair_changes.specs.Spots.{spot_of}
+use Rattle.repair_single.specs.declared.repair.Repair.{Repair}
 use Rattle.repair_chains.specs.Spots.{later_spot}
 use Rattle.repair_chains.specs.Totals.{chain_cost, chain_numbers, chain_weight}
 use Rattle.repair_chains.specs.declared.chains.Chain.{Chain}

@@ -7,16 +7,16 @@ use Rattle.json_trees.specs.Values.{Field, array_of, count, object_of, text}
 use Rattle.gcg_read.specs.declared.events.Event.{Event}
 use Rattle.gcg_read.specs.declared.players.Players.{Players}
 use Rattle.gcg_write.specs.Normal.{event_line}
-use Rattle.record_changes.specs.declared.slips.Change.{Change}
-use Rattle.record_changes.specs.declared.slips.Slip.{Slip}
-use Rattle.record_changes.specs.declared.slips.Slip.TheVariants as slip
-use Rattle.record_changes.specs.declared.spots.Spot.{Spot}
-use Rattle.record_changes.specs.declared.spots.Spot.TheVariants as spot
-use Rattle.record_changes.specs.Applied.{wrong_events}
-use Rattle.record_changes.specs.Numbers.{numbers_with}
-use Rattle.record_changes.specs.Spots.{spot_of}
-use Rattle.record_changes.specs.Weights.{weight_of}
-use Rattle.record_repairs.specs.declared.repair.Repair.{Repair}
+use Rattle.repair_changes.specs.declared.slips.Change.{Change}
+use Rattle.repair_changes.specs.declared.slips.Slip.{Slip}
+use Rattle.repair_changes.specs.declared.slips.Slip.TheVariants as slip
+use Rattle.repair_changes.specs.declared.spots.Spot.{Spot}
+use Rattle.repair_changes.specs.declared.spots.Spot.TheVariants as spot
+use Rattle.repair_changes.specs.Applied.{wrong_events}
+use Rattle.repair_changes.specs.Numbers.{numbers_with}
+use Rattle.repair_changes.specs.Spots.{spot_of}
+use Rattle.repair_changes.specs.Weights.{weight_of}
+use Rattle.repair_single.specs.declared.repair.Repair.{Repair}
 use Rattle.repair_answers.specs.Alike.{cost_in}
 use Rattle.repair_json.specs.Evidence.{evidence_object}
 use Rattle.repair_json.specs.Slips.{slip_name}
@@ -25,13 +25,13 @@ use Rattle.repair_json.specs.Slips.{slip_name}
 abbrev pub at_word : Spot → List ℕ
 at_word (spot.On line) = codes "on"
 at_word (spot.Before line) = codes "before"
-at_word (spot.Behind line) = codes "after"
+at_word (spot.After line) = codes "after"
 
 -- that line
 abbrev pub line_in : Spot → ℕ
 line_in (spot.On line) = line
 line_in (spot.Before line) = line
-line_in (spot.Behind line) = line
+line_in (spot.After line) = line
 
 -- so many events from a place on, or as many as there are
 abbrev pub part_of : List Event → (place number : ℕ) → List Event

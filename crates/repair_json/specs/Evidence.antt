@@ -3,11 +3,11 @@ use Rattle.std.specs.Prelude.{ℕ, ℤ, ◌-◌, List, [], ◌∷◌, codes, len
 use Rattle.std.specs.List.{filter_map}
 use Rattle.json.specs.Json.{Json, string}
 use Rattle.json_trees.specs.Values.{Field, array_of, count, integer, object_of, text}
-use Rattle.event_notes.specs.declared.unlisted.SpelledWord.{SpelledWord}
-use Rattle.game_sheets.specs.declared.wrong_numbers.WrongNumber.{WrongNumber}
-use Rattle.game_sheets.specs.declared.wrong_numbers.WrongNumber.TheVariants as wrong
-use Rattle.game_sheets.specs.WrongNumbers.{due}
-use Rattle.record_repairs.specs.declared.remains.Remains.{Remains}
+use Rattle.game_bests.specs.declared.unlisted.SpelledWord.{SpelledWord}
+use Rattle.game_corrections.specs.declared.wrong_numbers.WrongNumber.{WrongNumber}
+use Rattle.game_corrections.specs.declared.wrong_numbers.WrongNumber.TheVariants as wrong
+use Rattle.game_corrections.specs.WrongNumbers.{due}
+use Rattle.repair_single.specs.declared.remains.Remains.{Remains}
 
 -- a number that is wrong on a line
 abbrev pub wrong_fields : (what : List ℕ) → (line : ℕ) → (written right : ℤ) → List Field

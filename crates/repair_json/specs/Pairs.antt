@@ -6,9 +6,9 @@ use Rattle.json.specs.Json.{Json}
 use Rattle.json_trees.specs.Values.{Field, array_of, count, object_of}
 use Rattle.gcg_read.specs.declared.players.Players.{Players}
 use Rattle.gcg_read.specs.declared.records.Record.{Record}
-use Rattle.record_changes.specs.Numbers.{numbers_with_both}
-use Rattle.record_changes.specs.Spots.{spot_of}
-use Rattle.record_changes.specs.Weights.{weight_of}
+use Rattle.repair_changes.specs.Numbers.{numbers_with_both}
+use Rattle.repair_changes.specs.Spots.{spot_of}
+use Rattle.repair_changes.specs.Weights.{weight_of}
 use Rattle.repair_chains.specs.Spots.{later_spot}
 use Rattle.repair_pairs.specs.declared.found.Head.{Head}
 use Rattle.repair_pairs.specs.declared.found.Pair.{Pair}

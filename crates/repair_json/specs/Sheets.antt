@@ -6,10 +6,10 @@ use Rattle.json.specs.Json.{Json, boolean, string}
 use Rattle.json_trees.specs.Values.{Field, array_of, count, object_of}
 use Rattle.gcg_read.specs.declared.events.Event.{Event}
 use Rattle.gcg_read.specs.declared.players.Players.{Players}
-use Rattle.sheet_slips.specs.declared.slips.SheetSlip.{SheetSlip}
-use Rattle.sheet_slips.specs.declared.slips.SheetSlip.TheVariants as sheet
-use Rattle.sheet_slips.specs.Righting.{changes}
-use Rattle.sheet_slips.specs.Weights.{weight_of}
+use Rattle.repair_sheets.specs.declared.slips.SheetSlip.{SheetSlip}
+use Rattle.repair_sheets.specs.declared.slips.SheetSlip.TheVariants as sheet
+use Rattle.repair_sheets.specs.Righting.{changes}
+use Rattle.repair_sheets.specs.Weights.{weight_of}
 use Rattle.repair_answers.specs.declared.sheet_repair.SheetRepair.{SheetRepair}
 use Rattle.repair_json.specs.Changes.{events_value}
 use Rattle.repair_json.specs.Evidence.{evidence_object}

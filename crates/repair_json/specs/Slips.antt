@@ -1,27 +1,27 @@
 -- Slips by their names.
 use Rattle.std.specs.Prelude.{ℕ, List, codes}
-use Rattle.record_changes.specs.declared.slips.PositionSlip.{PositionSlip}
-use Rattle.record_changes.specs.declared.slips.PositionSlip.TheVariants as position
-use Rattle.record_changes.specs.declared.slips.SpellingSlip.{SpellingSlip}
-use Rattle.record_changes.specs.declared.slips.SpellingSlip.TheVariants as spelling
-use Rattle.record_changes.specs.declared.slips.TileSlip.{TileSlip}
-use Rattle.record_changes.specs.declared.slips.TileSlip.TheVariants as tile
-use Rattle.record_changes.specs.declared.slips.TilesOf.{TilesOf}
-use Rattle.record_changes.specs.declared.slips.TilesOf.TheVariants as tiles
-use Rattle.record_changes.specs.declared.slips.Misread.{Misread}
-use Rattle.record_changes.specs.declared.slips.Misread.TheVariants as misread
-use Rattle.record_changes.specs.declared.slips.CodeSlip.{CodeSlip}
-use Rattle.record_changes.specs.declared.slips.CodeSlip.TheVariants as code
-use Rattle.record_changes.specs.declared.slips.MissingLine.{MissingLine}
-use Rattle.record_changes.specs.declared.slips.MissingLine.TheVariants as missing
-use Rattle.record_changes.specs.declared.slips.Slip.{Slip}
-use Rattle.record_changes.specs.declared.slips.Slip.TheVariants as slip
-use Rattle.sheet_slips.specs.declared.slips.Way.{Way}
-use Rattle.sheet_slips.specs.declared.slips.Way.TheVariants as way
-use Rattle.sheet_slips.specs.declared.slips.RunningSlip.{RunningSlip}
-use Rattle.sheet_slips.specs.declared.slips.RunningSlip.TheVariants as running
-use Rattle.sheet_slips.specs.declared.slips.SheetSlip.{SheetSlip}
-use Rattle.sheet_slips.specs.declared.slips.SheetSlip.TheVariants as sheet
+use Rattle.repair_changes.specs.declared.slips.PositionSlip.{PositionSlip}
+use Rattle.repair_changes.specs.declared.slips.PositionSlip.TheVariants as position
+use Rattle.repair_changes.specs.declared.slips.SpellingSlip.{SpellingSlip}
+use Rattle.repair_changes.specs.declared.slips.SpellingSlip.TheVariants as spelling
+use Rattle.repair_changes.specs.declared.slips.TileSlip.{TileSlip}
+use Rattle.repair_changes.specs.declared.slips.TileSlip.TheVariants as tile
+use Rattle.repair_changes.specs.declared.slips.TilesOf.{TilesOf}
+use Rattle.repair_changes.specs.declared.slips.TilesOf.TheVariants as tiles
+use Rattle.repair_changes.specs.declared.slips.Misread.{Misread}
+use Rattle.repair_changes.specs.declared.slips.Misread.TheVariants as misread
+use Rattle.repair_changes.specs.declared.slips.CodeSlip.{CodeSlip}
+use Rattle.repair_changes.specs.declared.slips.CodeSlip.TheVariants as code
+use Rattle.repair_changes.specs.declared.slips.MissingLine.{MissingLine}
+use Rattle.repair_changes.specs.declared.slips.MissingLine.TheVariants as missing
+use Rattle.repair_changes.specs.declared.slips.Slip.{Slip}
+use Rattle.repair_changes.specs.declared.slips.Slip.TheVariants as slip
+use Rattle.repair_sheets.specs.declared.slips.Way.{Way}
+use Rattle.repair_sheets.specs.declared.slips.Way.TheVariants as way
+use Rattle.repair_sheets.specs.declared.slips.RunningSlip.{RunningSlip}
+use Rattle.repair_sheets.specs.declared.slips.RunningSlip.TheVariants as running
+use Rattle.repair_sheets.specs.declared.slips.SheetSlip.{SheetSlip}
+use Rattle.repair_sheets.specs.declared.slips.SheetSlip.TheVariants as sheet
 
 -- ---- slips of one line
 

@@ -2,7 +2,7 @@
 ghost use Rattle.std.specs.Prelude.{◌≡◌, IfOk, map, option_map};
 ghost use Rattle.json_trees.specs.Trees.{view};
 ghost use Rattle.json_trees.specs.Values.{array_of, object_of};
-ghost use Rattle.repair_json.specs.Answers.{alone_value, answer_object, faulty_fields, pair_with, pairs_value, repairs_value, settled_value, sound_fields, told_pair, told_repair};
+ghost use Rattle.repair_json.specs.Answers.{alone_value, answer_object, faulty_fields, pair_with, pairs_value, repairs_value, settled_value, sound_fields, reported_pair, reported_repair};
 ghost use Rattle.repair_json.specs.Sheets.{sheet_object};
 
 use crate::chains::chain_or_null;
@@ -10,18 +10,18 @@ use crate::changes::repair_tree;
 use crate::evidence::evidence_tree;
 use crate::pairs::pair_tree;
 use crate::sheets::sheet_tree;
-use answer_json::{ending_tree, fault_line_tree, fault_tree, item_at, unread_array, verdict_name};
-use call_stages::Verdict;
+use engine_stages::Verdict;
 use gcg_read::{Event, Players, Record};
+use gcg_unread::UnreadLine;
+use json_base::{ending_tree, fault_line_tree, fault_tree, item_at, unread_array, verdict_name};
 use json_trees::{
     Tree, array, bool_tree, name_tree, null_tree, object, push_if, size_tree, wide_tree,
 };
-use record_repairs::Repair;
-use repair_answers::{Faulty, NumbersAlone, RepairAnswer, SheetRepair, Told};
+use repair_answers::{Faulty, NumbersAlone, RepairAnswer, Reported, SheetRepair};
 use repair_chains::Chain;
 use repair_pairs::{Pair, Pairs};
+use repair_single::Repair;
 use std::alloc::{AllocError, Global};
-use unread_lines::UnreadLine;
 
 /// What stays wrong if the numbers alone are corrected; null if the record is no game then.
 fn alone_tree(
@@ -48,19 +48,19 @@ fn settled_tree(alone: &Option<NumbersAlone>) -> Tree
 }
 
 /// The repair that a line tells, with those that share the line.
-fn told_repair(
+fn reported_repair(
     alloc: Global,
     game: &Record,
     repairs: &[Repair],
-    told: &Told,
+    reported: &Reported,
 ) -> Result<Option<Tree>, AllocError>
-    ensures { IfOk result (λ tree. option_map view tree ≡ told_repair game.now repairs.now told.now) }
+    ensures { IfOk result (λ tree. option_map view tree ≡ reported_repair game.now repairs.now reported.now) }
 {
     let players = &game.players;
     let events = game.events.as_slice();
-    match item_at(repairs, told.first) {
+    match item_at(repairs, reported.first) {
         Some(repair) => {
-            let others = told.others.as_slice();
+            let others = reported.others.as_slice();
             Ok(Some(repair_tree(alloc, players, events, repairs, repair, others)?))
         }
         None => Ok(None),
@@ -73,13 +73,13 @@ fn repairs_array(
     alloc: Global,
     game: &Record,
     repairs: &[Repair],
-    lines: &[Told],
+    lines: &[Reported],
 ) -> Result<Tree, AllocError>
     ensures { IfOk result (λ tree. view tree ≡ repairs_value game.now repairs.now lines.now) }
 {
     let mut trees = Vec::new(alloc);
-    for told in lines {
-        push_if(&mut trees, told_repair(alloc, game, repairs, told)?)?;
+    for reported in lines {
+        push_if(&mut trees, reported_repair(alloc, game, repairs, reported)?)?;
     }
     Ok(array(trees))
 }
@@ -94,24 +94,24 @@ fn pair_with(
 ) -> Result<Option<Tree>, AllocError>
     ensures { IfOk result (λ tree. option_map view tree ≡ pair_with game.now pairs.now others.now pair.now) }
 {
-    let told = pairs.told.as_slice();
+    let reported = pairs.reported.as_slice();
     match item_at(pairs.heads.as_slice(), pair.head) {
-        Some(head) => Ok(Some(pair_tree(alloc, game, told, head, pair, others)?)),
+        Some(head) => Ok(Some(pair_tree(alloc, game, reported, head, pair, others)?)),
         None => Ok(None),
     }
 }
 
 /// The pair that a line tells, with those that share the line.
-fn told_pair(
+fn reported_pair(
     alloc: Global,
     game: &Record,
     pairs: &Pairs,
-    told: &Told,
+    reported: &Reported,
 ) -> Result<Option<Tree>, AllocError>
-    ensures { IfOk result (λ tree. option_map view tree ≡ told_pair game.now pairs.now told.now) }
+    ensures { IfOk result (λ tree. option_map view tree ≡ reported_pair game.now pairs.now reported.now) }
 {
-    match item_at(pairs.told.as_slice(), told.first) {
-        Some(pair) => pair_with(alloc, game, pairs, told.others.as_slice(), pair),
+    match item_at(pairs.reported.as_slice(), reported.first) {
+        Some(pair) => pair_with(alloc, game, pairs, reported.others.as_slice(), pair),
         None => Ok(None),
     }
 }
@@ -122,13 +122,13 @@ fn pairs_array(
     alloc: Global,
     game: &Record,
     pairs: &Pairs,
-    lines: &[Told],
+    lines: &[Reported],
 ) -> Result<Tree, AllocError>
     ensures { IfOk result (λ tree. view tree ≡ pairs_value game.now pairs.now lines.now) }
 {
     let mut trees = Vec::new(alloc);
-    for told in lines {
-        push_if(&mut trees, told_pair(alloc, game, pairs, told)?)?;
+    for reported in lines {
+        push_if(&mut trees, reported_pair(alloc, game, pairs, reported)?)?;
     }
     Ok(array(trees))
 }
@@ -161,8 +161,8 @@ fn faulty_tree(
 {
     let fault = fault_tree(alloc, verdict)?;
     let alone = alone_tree(alloc, game.events.as_slice(), &faulty.alone)?;
-    let told = faulty.found.told.as_slice();
-    let repairs = repairs_array(alloc, game, told, faulty.lines.as_slice())?;
+    let reported = faulty.found.reported.as_slice();
+    let repairs = repairs_array(alloc, game, reported, faulty.lines.as_slice())?;
     let pairs = pairs_array(alloc, game, &faulty.pairs, faulty.pair_lines.as_slice())?;
     let chain = chain_or_null(alloc, game, chain)?;
     let sheets = sheets_array(alloc, &game.players, faulty.sheets.as_slice())?;
@@ -176,7 +176,7 @@ fn faulty_tree(
         ("repairs", repairs),
         ("pairs", pairs),
         ("chain", chain),
-        ("left", size_tree(faulty.found.left.len())),
+        ("left", size_tree(faulty.found.remaining.len())),
         ("tried", wide_tree(faulty.tried)),
         ("untried", wide_tree(faulty.untried)),
         ("numbers_alone_settled", settled_tree(&faulty.alone)),

@@ -6,15 +6,15 @@ ghost use Rattle.repair_json.specs.BadRecords.{bad_object, found_in, missing_pla
 
 use crate::evidence::evidence_tree;
 use crate::slip_names::sheet_slip_name;
-use answer_json::{place_tree, refused_fields};
-use call_stages::InputFault;
+use engine_stages::InputFault;
 use gcg_read::ReadFault;
+use json_base::{place_tree, refused_fields};
 use json_trees::{
     Tree, array, bool_tree, count_tree, name_tree, null_tree, object, size_tree, wide_tree,
     with_field_if,
 };
 use repair_answers::{LineRepairs, SheetRepair};
-use sheet_slips::{SheetSlip, weight_of};
+use repair_sheets::{SheetSlip, weight_of};
 use std::alloc::{AllocError, Global};
 
 /// The place that a line should have; null if that is not what is wrong.

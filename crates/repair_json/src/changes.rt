@@ -7,14 +7,14 @@ ghost use Rattle.repair_json.specs.Changes.{at_word, change_object, coming, even
 
 use crate::evidence::evidence_tree;
 use crate::slip_names::slip_name;
-use answer_json::item_at;
 use gcg_read::{Event, Players, Record};
 use gcg_write::line_text;
+use json_base::item_at;
 use json_trees::{
     Tree, array, count_tree, name_tree, object, push_if, size_tree, text_tree, wide_tree,
 };
-use record_changes::{Change, Slip, Spot, numbers_with, spot_of, weight_of, wrong_events};
-use record_repairs::Repair;
+use repair_changes::{Change, Slip, Spot, numbers_with, spot_of, weight_of, wrong_events};
+use repair_single::Repair;
 use std::alloc::{AllocError, Global};
 
 /// Whether a change is on a line, before it or after it.
@@ -24,7 +24,7 @@ fn at_name(spot: Spot) -> &'static str
     match spot {
         Spot::On(_) => "on",
         Spot::Before(_) => "before",
-        Spot::Behind(_) => "after",
+        Spot::After(_) => "after",
     }
 }
 
@@ -33,7 +33,7 @@ fn line_in(spot: Spot) -> u32
     ensures { result ≡ line_in spot }
 {
     match spot {
-        Spot::On(line) | Spot::Before(line) | Spot::Behind(line) => line,
+        Spot::On(line) | Spot::Before(line) | Spot::After(line) => line,
     }
 }
 

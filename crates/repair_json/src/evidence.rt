@@ -4,12 +4,12 @@ ghost use Rattle.json_trees.specs.Trees.{view};
 ghost use Rattle.json_trees.specs.Values.{array_of};
 ghost use Rattle.repair_json.specs.Evidence.{evidence_object, word_value, wrong_object, wrong_on, wrong_value};
 
-use event_notes::SpelledWord;
-use game_sheets::{WrongNumber, due};
+use game_bests::SpelledWord;
+use game_corrections::{WrongNumber, due};
 use json_trees::{
     Tree, array, count_tree, integer_tree, name_tree, object, push_if, text_tree, wide_tree,
 };
-use record_repairs::Remains;
+use repair_single::Remains;
 use std::alloc::{AllocError, Global};
 
 /// A number that is wrong on a line.

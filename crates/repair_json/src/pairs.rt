@@ -7,11 +7,11 @@ ghost use Rattle.repair_json.specs.Pairs.{first_object, pair_object, second_at, 
 
 use crate::changes::{change_tree, put_by};
 use crate::evidence::evidence_tree;
-use answer_json::item_at;
 use gcg_read::{Players, Record};
+use json_base::item_at;
 use json_trees::{Tree, array, object, push_if, wide_tree};
-use record_changes::{numbers_with_both, spot_of, weight_of};
 use repair_chains::later_spot;
+use repair_changes::{numbers_with_both, spot_of, weight_of};
 use repair_pairs::{Head, Pair};
 use std::alloc::{AllocError, Global};
 

@@ -9,11 +9,11 @@ ghost use Rattle.repair_json.specs.Sheets.{changed_at, changed_events, changed_l
 use crate::changes::event_tree;
 use crate::evidence::evidence_tree;
 use crate::slip_names::sheet_slip_name;
-use answer_json::item_at;
 use gcg_read::{Event, Players};
+use json_base::item_at;
 use json_trees::{Tree, array, bool_tree, count_tree, name_tree, object, size_tree, wide_tree};
 use repair_answers::SheetRepair;
-use sheet_slips::{SheetSlip, changes, weight_of};
+use repair_sheets::{SheetSlip, changes, weight_of};
 use std::alloc::{AllocError, Global};
 
 /// Whether a slip changes the line of an event, which has this place among the right ones.
@@ -45,7 +45,7 @@ fn changed_at<'a>(slip: &SheetSlip, right: &'a [Event], place: usize) -> Option<
 }
 
 /// Appends the line of an event, if there is one.
-fn push_line(lines: &mut Vec<u32>, event: Option<&Event>) -> Result<(), AllocError>
+fn push_line_number(lines: &mut Vec<u32>, event: Option<&Event>) -> Result<(), AllocError>
     ensures { OnOk result (lines.new.items ≡ lines.old.items ++ map line_of (cons_option (option_copied event.entry) [])) }
 {
     if let Some(event) = event {
@@ -63,7 +63,7 @@ fn changed_lines(alloc: Global, repair: &SheetRepair) -> Result<Vec<u32>, AllocE
     let right = repair.right.as_slice();
     let mut lines = Vec::new(alloc);
     for place in 0..right.len() {
-        push_line(&mut lines, changed_at(slip, right, place))?;
+        push_line_number(&mut lines, changed_at(slip, right, place))?;
     }
     Ok(lines)
 }

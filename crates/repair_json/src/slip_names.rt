@@ -2,10 +2,10 @@
 ghost use Rattle.std.specs.Prelude.{◌≡◌};
 ghost use Rattle.repair_json.specs.Slips.{code_name, exchange_name, last_rack_name, misread_name, missing_name, off_name, position_name, rack_name, running_name, sheet_slip_name, slip_name, spelling_name, tile_name};
 
-use record_changes::{
+use repair_changes::{
     CodeSlip, Misread, MissingLine, PositionSlip, Slip, SpellingSlip, TileSlip, TilesOf,
 };
-use sheet_slips::{RunningSlip, SheetSlip, Way};
+use repair_sheets::{RunningSlip, SheetSlip, Way};
 
 /// The name of a slip of a position.
 fn position_name(slip: &PositionSlip) -> &'static str

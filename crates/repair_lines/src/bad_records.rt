@@ -1,9 +1,9 @@
 //! What repairs a text that is not a record.
 
 use crate::sheets::push_sheet_end;
+use explain_parts::{Part, say};
 use repair_answers::{LineRepairs, SameCost, SheetRepair};
 use repair_words::{push_sheet_slip, push_slip_difference};
-use sentence_parts::{Part, say};
 use std::alloc::AllocError;
 
 /// How many of the others that cost the same are named.
@@ -38,7 +38,11 @@ fn push_others(text: &mut Vec<u8>, others: &[SheetRepair]) -> Result<(), AllocEr
 }
 
 /// Appends a repair, and those that cost the same.
-fn push_line(text: &mut Vec<u8>, found: &[SheetRepair], line: SameCost) -> Result<(), AllocError> {
+fn push_same_cost(
+    text: &mut Vec<u8>,
+    found: &[SheetRepair],
+    line: SameCost,
+) -> Result<(), AllocError> {
     let Some([repair, others @ ..]) = found.get(line.first..line.first.saturating_add(line.many))
     else {
         return Ok(());
@@ -54,7 +58,7 @@ pub(crate) fn push_line_repairs(
     repairs: &LineRepairs,
 ) -> Result<(), AllocError> {
     for line in repairs.lines.as_slice() {
-        push_line(text, repairs.found.as_slice(), *line)?;
+        push_same_cost(text, repairs.found.as_slice(), *line)?;
     }
     Ok(())
 }

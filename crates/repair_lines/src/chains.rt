@@ -1,9 +1,9 @@
 //! Several changes that repair a record, one after the other.
 
+use explain_parts::{Part, say};
 use gcg_read::{Event, Record};
 use repair_chains::{Chain, later_spot};
 use repair_words::{push_change, push_change_at, push_evidence};
-use sentence_parts::{Part, say};
 use std::alloc::AllocError;
 
 /// The events after a step; none if there is no such step.

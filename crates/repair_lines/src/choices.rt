@@ -2,9 +2,9 @@
 
 use game_case::Case;
 use gcg_read::Players;
-use record_repairs::Repair;
 use repair_answers::{Choice, LineRepairs, RepairAnswer, SheetRepair, choice_of, choice_of_line};
-use repaired_sheets::{can_be_without, can_be_written, says_each_line};
+use repair_rewrites::{can_be_without, can_be_written, says_each_line};
+use repair_single::Repair;
 use std::alloc::AllocError;
 
 /// What is said of a repaired sheet that is kept.

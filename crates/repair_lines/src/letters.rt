@@ -1,8 +1,8 @@
 //! What the other repairs of a line have where they differ from the first.
 
-use record_changes::{CodeSlip, Misread, MissingLine, Slip, SpellingSlip, TileSlip};
+use explain_parts::{Part, say};
 use ref_tiles::Kind;
-use sentence_parts::{Part, say};
+use repair_changes::{CodeSlip, Misread, MissingLine, Slip, SpellingSlip, TileSlip};
 use std::alloc::AllocError;
 
 /// Appends a letter.
@@ -40,7 +40,7 @@ fn push_misread(text: &mut Vec<u8>, slip: &Misread) -> Result<(), AllocError> {
 }
 
 /// Appends a number of tiles.
-fn push_number(text: &mut Vec<u8>, number: u8) -> Result<(), AllocError> {
+fn push_tile_count(text: &mut Vec<u8>, number: u8) -> Result<(), AllocError> {
     say(text, &[Part::Many(number as usize)])
 }
 
@@ -51,9 +51,9 @@ pub(crate) fn push_difference(text: &mut Vec<u8>, slip: &Slip) -> Result<(), All
         Slip::Tile { slip, .. } => push_tile(text, slip),
         Slip::Misread(slip) => push_misread(text, slip),
         Slip::Number(number) | Slip::Code(CodeSlip::Exchange(number)) => {
-            push_number(text, *number)
+            push_tile_count(text, *number)
         }
-        Slip::Missing(MissingLine::Exchange { number, .. }) => push_number(text, *number),
+        Slip::Missing(MissingLine::Exchange { number, .. }) => push_tile_count(text, *number),
         _ => Ok(()),
     }
 }

@@ -4,17 +4,19 @@ use crate::bad_records::push_line_repairs;
 use crate::chains::push_chain;
 use crate::letters::push_difference;
 use crate::sheets::push_sheet;
-use decimal_text::push_number;
+use explain_parts::{Part, say};
 use game_case::{Case, case_line};
 use gcg_read::Record;
-use record_changes::{numbers_with, numbers_with_both};
-use record_repairs::Repair;
-use repair_answers::{Faulty, Item, NumbersAlone, RepairAnswer, Told, WORDS_OF_SLIPS, items_of};
+use repair_answers::{
+    Faulty, Item, NumbersAlone, RepairAnswer, Reported, WORDS_OF_SLIPS, items_of,
+};
 use repair_chains::later_spot;
+use repair_changes::{numbers_with, numbers_with_both};
 use repair_pairs::{Head, Pair, Pairs};
+use repair_single::Repair;
 use repair_words::{push_change, push_change_at, push_change_of, push_evidence};
-use sentence_parts::{Part, say};
 use std::alloc::{AllocError, Global};
+use text_decimals::push_number;
 
 /// Appends what the other repairs of a line have where they differ from the first.
 fn push_others(text: &mut Vec<u8>, repairs: &[Repair], others: &[usize]) -> Result<(), AllocError> {
@@ -33,17 +35,17 @@ fn push_others(text: &mut Vec<u8>, repairs: &[Repair], others: &[usize]) -> Resu
 }
 
 /// Appends a repair and those that are like it.
-fn push_told(
+fn push_reported(
     text: &mut Vec<u8>,
     record: &Record,
     repairs: &[Repair],
-    told: &Told,
+    reported: &Reported,
 ) -> Result<(), AllocError> {
-    let Some(repair) = repairs.get(told.first) else {
+    let Some(repair) = repairs.get(reported.first) else {
         return Ok(());
     };
     push_change_of(text, record, repair)?;
-    push_others(text, repairs, told.others.as_slice())?;
+    push_others(text, repairs, reported.others.as_slice())?;
     text.extend_from_slice(b"\n")?;
     let numbers = numbers_with(&repair.listed.change.slip, record.events.len());
     push_evidence(text, &repair.remains, numbers)
@@ -79,7 +81,7 @@ fn push_other_pairs(text: &mut Vec<u8>, pairs: &Pairs, others: &[usize]) -> Resu
     let mut between: &[u8] = b" (or with ";
     for index in others {
         text.extend_from_slice(between)?;
-        if let Some(pair) = pairs.told.as_slice().get(*index) {
+        if let Some(pair) = pairs.reported.as_slice().get(*index) {
             push_difference(text, &pair.then.listed.change.slip)?;
         }
         between = b", ";
@@ -92,16 +94,16 @@ fn push_pair(
     text: &mut Vec<u8>,
     record: &Record,
     pairs: &Pairs,
-    told: &Told,
+    reported: &Reported,
 ) -> Result<(), AllocError> {
-    let Some(pair) = pairs.told.as_slice().get(told.first) else {
+    let Some(pair) = pairs.reported.as_slice().get(reported.first) else {
         return Ok(());
     };
     let Some(head) = pairs.heads.as_slice().get(pair.head) else {
         return Ok(());
     };
     push_both(text, record, head, pair)?;
-    push_other_pairs(text, pairs, told.others.as_slice())?;
+    push_other_pairs(text, pairs, reported.others.as_slice())?;
     text.extend_from_slice(b"\n")?;
     let first = &head.first.change.slip;
     let second = &pair.then.listed.change.slip;
@@ -115,8 +117,8 @@ fn push_pairs(text: &mut Vec<u8>, record: &Record, faulty: &Faulty) -> Result<()
         return Ok(());
     }
     text.extend_from_slice(b"with two changes:\n")?;
-    for told in faulty.pair_lines.as_slice() {
-        push_pair(text, record, &faulty.pairs, told)?;
+    for reported in faulty.pair_lines.as_slice() {
+        push_pair(text, record, &faulty.pairs, reported)?;
     }
     Ok(())
 }
@@ -143,7 +145,12 @@ fn push_item(
 ) -> Result<(), AllocError> {
     match item {
         Item::Line(number) => match faulty.lines.as_slice().get(number) {
-            Some(told) => push_told(text, record, faulty.found.told.as_slice(), told),
+            Some(reported) => push_reported(
+                text,
+                record,
+                faulty.found.reported.as_slice(),
+                reported,
+            ),
             None => Ok(()),
         },
         Item::Numbers => push_alone(text, record, faulty),
@@ -167,7 +174,7 @@ fn push_none(text: &mut Vec<u8>, faulty: &Faulty) -> Result<(), AllocError> {
     text.extend_from_slice(b"none of ")?;
     push_number(text, faulty.tried)?;
     text.extend_from_slice(b" single changes ")?;
-    text.extend_from_slice(match (&faulty.alone, faulty.found.left.is_empty()) {
+    text.extend_from_slice(match (&faulty.alone, faulty.found.remaining.is_empty()) {
         (Some(_), true) => b"leaves fewer errors",
         (Some(_), false) => b"is known to leave fewer errors",
         (None, true) => b"makes it a game",
@@ -182,16 +189,16 @@ fn push_none(text: &mut Vec<u8>, faulty: &Faulty) -> Result<(), AllocError> {
 }
 
 /// Appends how many changes are left open, if there are any.
-fn push_left(text: &mut Vec<u8>, faulty: &Faulty) -> Result<(), AllocError> {
-    let left = faulty.found.left.len();
-    if left == 0 {
+fn push_remaining(text: &mut Vec<u8>, faulty: &Faulty) -> Result<(), AllocError> {
+    let remaining = faulty.found.remaining.len();
+    if remaining == 0 {
         return Ok(());
     }
     say(
         text,
         &[
             Part::Say("with "),
-            Part::Things(left, "more change"),
+            Part::Things(remaining, "more change"),
             Part::Say(" every event stands, but no deal was found\n"),
         ],
     )
@@ -246,7 +253,7 @@ fn push_faulty(
         push_item(text, record, faulty, item)?;
     }
     push_none(text, faulty)?;
-    push_left(text, faulty)?;
+    push_remaining(text, faulty)?;
     push_untried(text, record, faulty)?;
     push_pairs(text, record, faulty)
 }

@@ -6,9 +6,9 @@ use Rattle.std.proofs.lemmas.List.Elements.{All-append, All-push, All-weaker, Al
 use Rattle.std.proofs.lemmas.Option.{slice_get_read, slice_get_within, get_or_from_slice_get}
 use Rattle.ref_tiles.specs.declared.rulebook.Rules.{Rules}
 use Rattle.gcg_read.specs.declared.events.Event.{Event}
-use Rattle.record_changes.specs.Weights.{weight_of}
-use Rattle.record_repairs.specs.Repairs.{IsRepair}
-use Rattle.record_repairs.specs.declared.repair.Repair.{Repair}
+use Rattle.repair_changes.specs.Weights.{weight_of}
+use Rattle.repair_single.specs.Repairs.{IsRepair}
+use Rattle.repair_single.specs.declared.repair.Repair.{Repair}
 use Rattle.repair_pairs.specs.Pairs.{ConcernsSheet, WrongOnSheet, CostsLess, MakesOther, IsHead, IsPair, ArePairs, cost_with}
 use Rattle.repair_pairs.specs.Finding.{IsPairWith, AddsPair, AddsPairs, ArePairsSoFar, AreFirstOf, AreSorted}
 use Rattle.repair_pairs.specs.declared.found.Head.{Head}
@@ -97,42 +97,42 @@ pair_of rules list written singles heads head below number weight found p first 
 
 pub head_added : (rules : Rules) (list : List (List ℕ)) (written : List Event) (singles : List Repair) (old new : Pairs) (head : Head) (below : Option ℕ) (number weight : ℕ) (found : List Repair)
     → IsHead rules list written head → number ≡ length old.heads.items → weight ≡ weight_of head.first.change.slip → All (IsRepair rules list head.made [] below) found
-    → new.heads.items ≡ old.heads.items ++ head ∷ [] → AddsPairs singles head.made number weight found old.told.items new.told.items
+    → new.heads.items ≡ old.heads.items ++ head ∷ [] → AddsPairs singles head.made number weight found old.reported.items new.reported.items
     → ArePairsSoFar rules list written singles old → ArePairsSoFar rules list written singles new
 head_added rules list written singles old new head below number weight found first last weighs repairs heads adds so =
     let all : List Head = old.heads.items ++ head ∷ [] in
-    let olds = All-weaker (IsPair rules list written singles old.heads.items) (IsPair rules list written singles all) (pair_stays rules list written singles old.heads.items head) old.told.items so in
+    let olds = All-weaker (IsPair rules list written singles old.heads.items) (IsPair rules list written singles all) (pair_stays rules list written singles old.heads.items head) old.reported.items so in
     let news = All-weaker (λ (p : Pair). Contains found p.then × IsPairWith singles head.made number weight p) (IsPair rules list written singles all)
     (λ p with_it. pair_of rules list written singles old.heads.items head below number weight found p first last weighs repairs with_it) adds.more adds.each in
-    subst (λ (hs : List Head). All (IsPair rules list written singles hs) new.told.items) (sym heads)
-    (subst (All (IsPair rules list written singles all)) (sym adds.added) (All-append (IsPair rules list written singles all) old.told.items adds.more olds news))
+    subst (λ (hs : List Head). All (IsPair rules list written singles hs) new.reported.items) (sym heads)
+    (subst (All (IsPair rules list written singles all)) (sym adds.added) (All-append (IsPair rules list written singles all) old.reported.items adds.more olds news))
 
 -- ---- the first of all
 
 pub pairs_first : (rules : Rules) (list : List (List ℕ)) (written : List Event) (singles : List Repair) (most : ℕ) (found first : Pairs) → ArePairsSoFar rules list written singles found
     → AreSorted found most first → ArePairs rules list written singles most first
 pairs_first rules list written singles most found first are sorted =
-    let told = sorted.told in
-    let each : All (IsPair rules list written singles found.heads.items) first.told.items =
-    λ k d within. All-contains (IsPair rules list written singles found.heads.items) found.told.items (get_or first.told.items k d) are (told.each k d within) in
+    let reported = sorted.reported in
+    let each : All (IsPair rules list written singles found.heads.items) first.reported.items =
+    λ k d within. All-contains (IsPair rules list written singles found.heads.items) found.reported.items (get_or first.reported.items k d) are (reported.each k d within) in
     record {
-      each = subst (λ (hs : List Head). All (IsPair rules list written singles hs) first.told.items) (sym sorted.heads) each;
-      few = told.few;
-      ordered = told.ordered;
-      once = told.once;
+      each = subst (λ (hs : List Head). All (IsPair rules list written singles hs) first.reported.items) (sym sorted.heads) each;
+      few = reported.few;
+      ordered = reported.ordered;
+      once = reported.once;
     }
 
 -- some of a list are some of each permutation of it
-pub first_of_all : (all found told : List Pair) (most : ℕ) → ((p : Pair) → Contains found p → Contains all p) → AreFirstOf found most told → AreFirstOf all most told
-first_of_all all found told most among first =
+pub first_of_all : (all found reported : List Pair) (most : ℕ) → ((p : Pair) → Contains found p → Contains all p) → AreFirstOf found most reported → AreFirstOf all most reported
+first_of_all all found reported most among first =
     record {
-      each = λ k d within. among (get_or told k d) (first.each k d within);
+      each = λ k d within. among (get_or reported k d) (first.each k d within);
       few = first.few;
       ordered = first.ordered;
       once = first.once;
     }
 
-pub told_ok : {E : Type 0} (rules : Rules) (list : List (List ℕ)) (written : List Event) (singles : List Repair) (most : ℕ) (found : Pairs) (r : Result Pairs E) → ArePairsSoFar rules list written singles found
+pub reported_ok : {E : Type 0} (rules : Rules) (list : List (List ℕ)) (written : List Event) (singles : List Repair) (most : ℕ) (found : Pairs) (r : Result Pairs E) → ArePairsSoFar rules list written singles found
     → IfOk r (AreSorted found most) → IfOk r (ArePairs rules list written singles most)
-told_ok rules list written singles most found (Ok first) are sorted = pairs_first rules list written singles most found first are sorted
-told_ok rules list written singles most found (Err e) are sorted = tt
+reported_ok rules list written singles most found (Ok first) are sorted = pairs_first rules list written singles most found first are sorted
+reported_ok rules list written singles most found (Err e) are sorted = tt

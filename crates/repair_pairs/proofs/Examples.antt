@@ -1,11 +1,11 @@
 -- What two slips cost, and how many lines a first one leaves in its place.
 use Rattle.std.proofs.Common.{◌≡◌, ◌+◌, refl}
 use Rattle.gcg_read.specs.declared.events.Seat.TheVariants as seat
-use Rattle.record_changes.specs.Weights.{weight_of}
-use Rattle.record_changes.specs.declared.slips.MissingLine.TheVariants as line
-use Rattle.record_changes.specs.declared.slips.PositionSlip.TheVariants as position
-use Rattle.record_changes.specs.declared.slips.Slip.TheVariants as slip
-use Rattle.record_repairs.specs.Costs.{costs}
+use Rattle.repair_changes.specs.Weights.{weight_of}
+use Rattle.repair_changes.specs.declared.slips.MissingLine.TheVariants as line
+use Rattle.repair_changes.specs.declared.slips.PositionSlip.TheVariants as position
+use Rattle.repair_changes.specs.declared.slips.Slip.TheVariants as slip
+use Rattle.repair_single.specs.Costs.{costs}
 use Rattle.repair_pairs.specs.Made.{lines_there}
 
 -- a play in the other direction and one that is a square off; all numbers are right with them

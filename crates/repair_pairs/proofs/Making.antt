@@ -2,14 +2,14 @@
 use Rattle.std.proofs.Common.{◌≡◌, ℕ, ◌+◌, ◌≤◌, List, length, Option, Some, None, ap, ◌∙◌, subst, arith}
 use Rattle.ref_tiles.specs.declared.rulebook.Rules.{Rules}
 use Rattle.gcg_read.specs.declared.events.Event.{Event}
-use Rattle.game_sheets.specs.Corrections.{AreRenumbered}
-use Rattle.game_rows.specs.declared.refusals.Stop.{Stop}
-use Rattle.game_rows.specs.declared.walking.Walk.{Walk}
-use Rattle.game_rows.specs.Refusals.{EndsAt}
-use Rattle.game_rows.specs.Walks.{IsWalk}
-use Rattle.record_changes.specs.declared.slips.Change.{Change}
-use Rattle.record_changes.specs.Applied.{applied}
-use Rattle.record_repairs.specs.OnSheet.{on_sheet}
+use Rattle.game_corrections.specs.Corrections.{AreRenumbered}
+use Rattle.game_walk.specs.declared.refusals.Stop.{Stop}
+use Rattle.game_walk.specs.declared.walking.Walk.{Walk}
+use Rattle.game_walk.specs.Refusals.{EndsAt}
+use Rattle.game_walk.specs.Walks.{IsWalk}
+use Rattle.repair_changes.specs.declared.slips.Change.{Change}
+use Rattle.repair_changes.specs.Applied.{applied}
+use Rattle.repair_single.specs.OnSheet.{on_sheet}
 use Rattle.repair_pairs.specs.Made.{lines_there, IsMade}
 
 renumbered_by : (rules : Rules) (list : List (List ℕ)) (written right : List Event) (end : ℕ) (stopped : Option Stop) → EndsAt rules list written right end stopped → AreRenumbered written right

@@ -2,8 +2,8 @@
 use Rattle.std.specs.Prelude.{◌≡◌, ◌⊎◌, ℕ, ◌≤◌, List, [], ◌∷◌, ◌++◌, length, All, AllPairs, Any, Contains}
 use Rattle.ref_tiles.specs.declared.rulebook.Rules.{Rules}
 use Rattle.gcg_read.specs.declared.events.Event.{Event}
-use Rattle.record_repairs.specs.Repairs.{SameRecord}
-use Rattle.record_repairs.specs.declared.repair.Repair.{Repair}
+use Rattle.repair_single.specs.Repairs.{SameRecord}
+use Rattle.repair_single.specs.declared.repair.Repair.{Repair}
 use Rattle.repair_pairs.specs.Pairs.{ConcernsSheet, WrongOnSheet, CostsLess, MakesOther, cost_with, IsPair}
 use Rattle.repair_pairs.specs.declared.found.Pair.{Pair}
 use Rattle.repair_pairs.specs.declared.found.Pairs.{Pairs}
@@ -35,23 +35,23 @@ pub record AddsPairs (singles : List Repair) (made : List Event) (head weight : 
   pub each : All (λ (p : Pair). Contains found p.then × IsPairWith singles made head weight p) more
 
 abbrev pub ArePairsSoFar : Rules → (list : List (List ℕ)) → (written : List Event) → (singles : List Repair) → Pairs → Type 0
-ArePairsSoFar rules list written singles pairs = All (IsPair rules list written singles pairs.heads.items) pairs.told.items
+ArePairsSoFar rules list written singles pairs = All (IsPair rules list written singles pairs.heads.items) pairs.reported.items
 
 abbrev pub IsCheaper : Pair → Pair → Type 0
 IsCheaper a b = a.cost ≤ b.cost
 
 -- one of the pairs makes this record
-abbrev pub IsMadeBy : (told : List Pair) → (right : List Event) → Type 0
-IsMadeBy told right = Any (λ (p : Pair). SameRecord p.then.right right) told
+abbrev pub IsMadeBy : (reported : List Pair) → (right : List Event) → Type 0
+IsMadeBy reported right = Any (λ (p : Pair). SameRecord p.then.right right) reported
 
 -- at most `most` of these pairs, in the order of their costs, and each record once
-pub record AreFirstOf (found : List Pair) (most : ℕ) (told : List Pair) : Type 0 where
-  pub each : All (Contains found) told
-  pub few : length told ≤ most
-  pub ordered : AllPairs IsCheaper told
-  pub once : AllPairs (λ (a b : Pair). SameRecord a.then.right b.then.right → ⊥) told
+pub record AreFirstOf (found : List Pair) (most : ℕ) (reported : List Pair) : Type 0 where
+  pub each : All (Contains found) reported
+  pub few : length reported ≤ most
+  pub ordered : AllPairs IsCheaper reported
+  pub once : AllPairs (λ (a b : Pair). SameRecord a.then.right b.then.right → ⊥) reported
 
 -- the same for the pairs of these heads
 pub record AreSorted (pairs : Pairs) (most : ℕ) (first : Pairs) : Type 0 where
   pub heads : first.heads.items ≡ pairs.heads.items
-  pub told : AreFirstOf pairs.told.items most first.told.items
+  pub reported : AreFirstOf pairs.reported.items most first.reported.items

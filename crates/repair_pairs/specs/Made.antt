@@ -3,12 +3,12 @@ use Rattle.std.specs.Prelude.{◌≡◌, ℕ, ◌+◌, List}
 use Rattle.ref_tiles.specs.declared.rulebook.Rules.{Rules}
 use Rattle.gcg_read.specs.declared.events.Event.{Event}
 use Rattle.game_turns.specs.Places.{AreAllowedTo}
-use Rattle.game_sheets.specs.Corrections.{AreRenumbered}
-use Rattle.record_changes.specs.declared.slips.Change.{Change}
-use Rattle.record_changes.specs.declared.slips.Slip.{Slip}
-use Rattle.record_changes.specs.declared.slips.Slip.TheVariants as slip
-use Rattle.record_changes.specs.Applied.{applied, wrong_events}
-use Rattle.record_repairs.specs.OnSheet.{on_sheet}
+use Rattle.game_corrections.specs.Corrections.{AreRenumbered}
+use Rattle.repair_changes.specs.declared.slips.Change.{Change}
+use Rattle.repair_changes.specs.declared.slips.Slip.{Slip}
+use Rattle.repair_changes.specs.declared.slips.Slip.TheVariants as slip
+use Rattle.repair_changes.specs.Applied.{applied, wrong_events}
+use Rattle.repair_single.specs.OnSheet.{on_sheet}
 
 -- how many lines replace those that a slip concerns
 abbrev pub lines_there : Slip → ℕ

@@ -2,14 +2,14 @@
 use Rattle.std.specs.Prelude.{◌≡◌, ℕ, ◌+◌, ◌<◌, ◌≤◌, ◌==◌, not, Bool, true, List, [], length, take, drop, All, AllPairs, slice_get, Some, None}
 use Rattle.ref_tiles.specs.declared.rulebook.Rules.{Rules}
 use Rattle.gcg_read.specs.declared.events.Event.{Event}
-use Rattle.game_sheets.specs.declared.wrong_numbers.WrongNumber.{WrongNumber}
-use Rattle.game_sheets.specs.declared.wrong_numbers.WrongNumber.TheVariants as number
-use Rattle.record_changes.specs.declared.slips.Change.{Change}
-use Rattle.record_changes.specs.Applied.{wrong_events}
-use Rattle.record_changes.specs.Weights.{weight_of}
-use Rattle.record_repairs.specs.Costs.{costs, rank_of}
-use Rattle.record_repairs.specs.Repairs.{IsListed, IsRepair, SameRecord, IsAmong}
-use Rattle.record_repairs.specs.declared.repair.Repair.{Repair}
+use Rattle.game_corrections.specs.declared.wrong_numbers.WrongNumber.{WrongNumber}
+use Rattle.game_corrections.specs.declared.wrong_numbers.WrongNumber.TheVariants as number
+use Rattle.repair_changes.specs.declared.slips.Change.{Change}
+use Rattle.repair_changes.specs.Applied.{wrong_events}
+use Rattle.repair_changes.specs.Weights.{weight_of}
+use Rattle.repair_single.specs.Costs.{costs, rank_of}
+use Rattle.repair_single.specs.Repairs.{IsListed, IsRepair, SameRecord, IsAmong}
+use Rattle.repair_single.specs.declared.repair.Repair.{Repair}
 use Rattle.repair_pairs.specs.Made.{IsMade}
 use Rattle.repair_pairs.specs.declared.found.Head.{Head}
 use Rattle.repair_pairs.specs.declared.found.Pair.{Pair}
@@ -66,7 +66,7 @@ pub record IsPair (rules : Rules) (list : List (List ℕ)) (written : List Event
 -- At most `most` pairs that repair a record, in the order of their costs. Each record that they make is made once. Nothing says that they are all pairs,
 -- or the first of all.
 pub record ArePairs (rules : Rules) (list : List (List ℕ)) (written : List Event) (singles : List Repair) (most : ℕ) (pairs : Pairs) : Type 0 where
-  pub each : All (IsPair rules list written singles pairs.heads.items) pairs.told.items
-  pub few : length pairs.told.items ≤ most
-  pub ordered : AllPairs (λ (a b : Pair). a.cost ≤ b.cost) pairs.told.items
-  pub once : AllPairs (λ (a b : Pair). SameRecord a.then.right b.then.right → ⊥) pairs.told.items
+  pub each : All (IsPair rules list written singles pairs.heads.items) pairs.reported.items
+  pub few : length pairs.reported.items ≤ most
+  pub ordered : AllPairs (λ (a b : Pair). a.cost ≤ b.cost) pairs.reported.items
+  pub once : AllPairs (λ (a b : Pair). SameRecord a.then.right b.then.right → ⊥) pairs.reported.items

@@ -1,6 +1,6 @@
 //! The pairs of changes that repair a record.
 ghost use Rattle.std.specs.Prelude.{◌≡◌, IfOk, OnOk};
-ghost use Rattle.game_rows.specs.Walks.{IsWalkOf};
+ghost use Rattle.game_walk.specs.Walks.{IsWalkOf};
 ghost use Rattle.repair_pairs.specs.Pairs.{ArePairs};
 ghost use Rattle.repair_pairs.specs.Finding.{AddsPairs, AddsPair, ArePairsSoFar, AreSorted};
 
@@ -8,14 +8,14 @@ use crate::found::{Head, Pair, Pairs};
 use crate::heads::{HeadAt, heads_of};
 use crate::listed::listed_at;
 use crate::made::made_by;
-use crate::news::{is_told, least_cost};
+use crate::news::{is_reported, least_cost};
 use crate::ordering::first_pairs;
-use game_rows::{Walk, walk_as_written};
+use game_walk::{Walk, walk_as_written};
 use gcg_read::{Event, Events};
 use lex_list::WordList;
-use record_changes::weight_of;
-use record_repairs::{Repair, repairs};
 use ref_tiles::Rules;
+use repair_changes::weight_of;
+use repair_single::{Repair, repairs};
 use std::alloc::{AllocError, Global};
 
 /// How many first changes the search goes on with.
@@ -31,8 +31,8 @@ const MOST_WORDS: usize = 3;
 /// Fewer numbers and words than these have to stay wrong with both changes, as each costs at least 3; `None` if no single repair is known.
 fn below_of(singles: &[Repair], weight: usize) -> Option<usize> {
     let least = least_cost(singles)?;
-    let left = least.saturating_sub(weight) / 3;
-    Some(left.saturating_add(1))
+    let remaining = least.saturating_sub(weight) / 3;
+    Some(remaining.saturating_add(1))
 }
 
 /// Whether a repair is likely: it costs no more than a wrong number, or it leaves no number wrong and more unlisted words than come from slips.
@@ -56,39 +56,39 @@ fn is_open(walk: &Walk, singles: &[Repair]) -> bool {
 
 /// Adds a pair of the head with a number, if the pair is listed in addition to the single repairs.
 fn push_pair(
-    told: &mut Vec<Pair>,
+    reported: &mut Vec<Pair>,
     singles: &[Repair],
     made: &[Event],
     head: usize,
     weight: usize,
     then: Repair,
 ) -> Result<(), AllocError>
-    ensures { OnOk result (AddsPair singles.now made.now head weight then told.old.items told.new.items) }
+    ensures { OnOk result (AddsPair singles.now made.now head weight then reported.old.items reported.new.items) }
 {
     let slips = weight as u128 + weight_of(&then.listed.change.slip) as u128;
     let wrong = then.remains.wrong.len() as u128;
     let unlisted = then.remains.unlisted.len() as u128;
     let cost = 5 * wrong + 3 * unlisted + slips;
-    if !is_told(singles, made, &then, cost) {
+    if !is_reported(singles, made, &then, cost) {
         return Ok(());
     }
-    told.push(Pair { head, then, cost })?;
+    reported.push(Pair { head, then, cost })?;
     Ok(())
 }
 
 /// Adds the pairs of the head with a number that are listed in addition to the single repairs.
 fn push_pairs(
-    told: &mut Vec<Pair>,
+    reported: &mut Vec<Pair>,
     singles: &[Repair],
     made: &[Event],
     head: usize,
     weight: usize,
     found: Vec<Repair>,
 ) -> Result<(), AllocError>
-    ensures { OnOk result (AddsPairs singles.now made.now head weight found.items told.old.items told.new.items) }
+    ensures { OnOk result (AddsPairs singles.now made.now head weight found.items reported.old.items reported.new.items) }
 {
     for then in found {
-        push_pair(told, singles, made, head, weight, then)?;
+        push_pair(reported, singles, made, head, weight, then)?;
     }
     Ok(())
 }
@@ -120,12 +120,12 @@ fn push_head(
     let found = repairs(alloc, rules, list, &mut made, &[], below, most, Some(limit))?;
     let number = pairs.heads.len();
     push_pairs(
-        &mut pairs.told,
+        &mut pairs.reported,
         singles,
         made.as_slice(),
         number,
         weight,
-        found.told,
+        found.reported,
     )?;
     pairs.heads.push(Head { first, made })?;
     Ok(())
@@ -147,7 +147,7 @@ fn pairs_of(
 {
     let mut pairs = Pairs {
         heads: Vec::new(alloc),
-        told: Vec::new(alloc),
+        reported: Vec::new(alloc),
     };
     if !is_open(walk, singles) {
         return Ok(pairs);
@@ -168,12 +168,12 @@ fn pairs_of(
 fn first_of(alloc: Global, pairs: Pairs, most: usize) -> Result<Pairs, AllocError>
     ensures { IfOk result (λ first. AreSorted pairs most first) }
 {
-    let mut all = pairs.told;
+    let mut all = pairs.reported;
     all.sort_by_key(|pair| pair.cost)?;
-    let told = first_pairs(alloc, all, most)?;
+    let reported = first_pairs(alloc, all, most)?;
     Ok(Pairs {
         heads: pairs.heads,
-        told,
+        reported,
     })
 }
 
@@ -194,7 +194,7 @@ pub fn pairs(
     most: usize,
     limit: u64,
 ) -> Result<Pairs, AllocError>
-    ensures told { IfOk result (ArePairs rules.now list.now events.old singles.now most) }
+    ensures reported { IfOk result (ArePairs rules.now list.now events.old singles.now most) }
     ensures same { OnOk result (events.new ≡ events.old) }
 {
     let walk = walk_as_written(alloc, rules, list, events)?;

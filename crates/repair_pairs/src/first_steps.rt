@@ -1,6 +1,6 @@
 //! The first change of a record that moves its fault on.
 ghost use Rattle.std.specs.Prelude.{◌≡◌, IfOk, IfSome, OnOk};
-ghost use Rattle.game_rows.specs.Walks.{IsWalkOf};
+ghost use Rattle.game_walk.specs.Walks.{IsWalkOf};
 ghost use Rattle.repair_pairs.specs.Pairs.{IsStep};
 
 use crate::found::Head;
@@ -8,7 +8,7 @@ use crate::heads::{HeadAt, heads_of};
 use crate::listed::listed_at;
 use crate::made::made_by;
 use crate::news::concerns_sheet;
-use game_rows::{Walk, walk_as_written};
+use game_walk::{Walk, walk_as_written};
 use gcg_read::{Event, Events};
 use lex_list::WordList;
 use ref_tiles::Rules;

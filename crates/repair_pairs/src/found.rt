@@ -1,7 +1,7 @@
 //! What two changes repair.
 
 use gcg_read::Events;
-use record_repairs::{Listed, Repair};
+use repair_single::{Listed, Repair};
 
 /// A first change of a record, and the record that it makes.
 #[derive(Drop)]
@@ -29,5 +29,5 @@ pub struct Pairs {
     /// The first changes.
     pub heads: Vec<Head>,
     /// The pairs, those that cost least first.
-    pub told: Vec<Pair>,
+    pub reported: Vec<Pair>,
 }

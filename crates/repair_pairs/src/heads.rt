@@ -4,16 +4,16 @@ ghost use Rattle.std.specs.Prelude.{◌≤◌};
 ghost use Rattle.gcg_read.specs.Numerals.{IsPoints};
 
 use crate::made::lines_there;
-use change_lists::slips_at;
-use event_notes::unlisted_of;
-use game_rows::{Row, Walk, walk_as_written};
-use game_sheets::{had_before, is_right_sum, mend};
+use game_bests::unlisted_of;
+use game_corrections::{had_before, is_right_sum, mend};
 use game_turns::{Machine, withdraws};
+use game_walk::{Row, Walk, walk_as_written};
 use gcg_read::{Event, Events};
 use lex_list::WordList;
-use record_changes::{Change, apply, copy_slip, weight_of, wrong_events};
-use record_repairs::sheet_with;
 use ref_tiles::Rules;
+use repair_changes::{Change, apply, copy_slip, weight_of, wrong_events};
+use repair_single::sheet_with;
+use repair_slips::slips_at;
 use std::alloc::{AllocError, Global};
 
 /// How many events after a change are taken before the game is compared with that of the record. A play that is taken back leaves its tiles in view for
@@ -43,11 +43,11 @@ fn start_of(events: &[Event], changed: &[Event], place: usize) -> usize {
 
 /// How many events have to be allowed with a change: up to the first refused one, or up to the last one that the change adds.
 fn end_of(walk: &Walk, events: &[Event], changed: &[Event], change: &Change) -> usize {
-    let behind = events
+    let following = events
         .len()
         .saturating_sub(walk.rows.len())
         .saturating_sub(1);
-    let refused = changed.len().saturating_sub(behind);
+    let refused = changed.len().saturating_sub(following);
     let there = change.place.saturating_add(lines_there(&change.slip));
     if there > refused { there } else { refused }
 }
@@ -127,7 +127,7 @@ fn wrong_on(row: &Row, had: i32) -> u128
 fn line_cost(alloc: Global, list: &WordList, row: &Row, had: i32) -> Result<u128, AllocError>
     requires { IsPoints had }
 {
-    let words = unlisted_of(alloc, list, row.behind.standing_words())?;
+    let words = unlisted_of(alloc, list, row.following.standing_words())?;
     Ok(5 * wrong_on(row, had) + 3 * words.len() as u128)
 }
 
@@ -225,12 +225,12 @@ fn heads_within(
     let rows = walk.rows.len();
     let mut spent = 0;
     let mut found = Vec::new(alloc);
-    for behind in 0..rows + 1 {
+    for following in 0..rows + 1 {
         if spent >= limit {
             return Ok(found);
         }
         let mut here = Vec::new(alloc);
-        let place = rows - behind;
+        let place = rows - following;
         push_heads(
             alloc, &mut here, rules, list, walk, events, place, &mut spent,
         )?;

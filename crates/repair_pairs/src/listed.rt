@@ -1,15 +1,15 @@
 //! A change of the list, by its place and its number there.
 ghost use Rattle.std.specs.Prelude.{[], IfOk, IfSome};
-ghost use Rattle.game_rows.specs.Walks.{IsWalkOf};
-ghost use Rattle.record_repairs.specs.Repairs.{IsListed};
+ghost use Rattle.game_walk.specs.Walks.{IsWalkOf};
+ghost use Rattle.repair_single.specs.Repairs.{IsListed};
 
-use change_lists::{law_of_slips, slips_at};
-use game_rows::Walk;
+use game_walk::Walk;
 use gcg_read::Event;
 use lex_list::WordList;
-use record_changes::Change;
-use record_repairs::{Listed, game_before};
 use ref_tiles::Rules;
+use repair_changes::Change;
+use repair_single::{Listed, game_before};
+use repair_slips::{law_of_slips, slips_at};
 use std::alloc::{AllocError, Global};
 
 /// The change with a number among those at a place, if there is one.

@@ -2,12 +2,12 @@
 ghost use Rattle.std.specs.Prelude.{◌≡◌, IfOk, IfSome};
 ghost use Rattle.repair_pairs.specs.Made.{lines_there, IsMade};
 
-use game_rows::walk_and_correct;
+use game_walk::walk_and_correct;
 use gcg_read::{Event, Events};
 use lex_list::WordList;
-use record_changes::{Change, Slip, apply, wrong_events};
-use record_repairs::sheet_with;
 use ref_tiles::Rules;
+use repair_changes::{Change, Slip, apply, wrong_events};
+use repair_single::sheet_with;
 use std::alloc::{AllocError, Global};
 
 /// How many lines replace those that a slip concerns.

@@ -2,10 +2,10 @@
 ghost use Rattle.std.specs.Prelude.{◌≡◌, IsTrue};
 ghost use Rattle.repair_pairs.specs.Pairs.{ConcernsSheet, is_on_sheet, WrongOnSheet, CostsLess, MakesOther};
 
-use game_sheets::WrongNumber;
+use game_corrections::WrongNumber;
 use gcg_read::Event;
-use record_changes::{Change, weight_of, wrong_events};
-use record_repairs::{Repair, makes};
+use repair_changes::{Change, weight_of, wrong_events};
+use repair_single::{Repair, makes};
 
 /// Whether each line that a change concerns is on the sheet, and not one that a first change added.
 pub(crate) fn concerns_sheet(made: &[Event], change: &Change) -> bool
@@ -81,7 +81,7 @@ pub fn is_of_sheet(made: &[Event], then: &Repair) -> bool
 
 /// Whether two changes that cost `cost` are listed in addition to single repairs: the second concerns lines of the sheet, and so does each number that stays
 /// wrong; each of the single repairs costs more, and makes another record.
-pub(crate) fn is_told(singles: &[Repair], made: &[Event], then: &Repair, cost: u128) -> bool
+pub(crate) fn is_reported(singles: &[Repair], made: &[Event], then: &Repair, cost: u128) -> bool
     ensures lines { IsTrue result → ConcernsSheet made.now then.now.listed.change }
     ensures numbers { IsTrue result → WrongOnSheet then.now }
     ensures cheaper { IsTrue result → CostsLess singles.now cost }

@@ -4,14 +4,14 @@ ghost use Rattle.repair_pairs.specs.Finding.{IsMadeBy, AreFirstOf, IsCheaper};
 
 use crate::found::Pair;
 use gcg_read::Event;
-use record_repairs::makes;
+use repair_single::makes;
 use std::alloc::{AllocError, Global};
 
 /// Whether one of the pairs makes this record.
-fn is_made_by(told: &[Pair], right: &[Event]) -> bool
-    ensures { IsTrue result ↔ IsMadeBy told.now right.now }
+fn is_made_by(reported: &[Pair], right: &[Event]) -> bool
+    ensures { IsTrue result ↔ IsMadeBy reported.now right.now }
 {
-    for pair in told {
+    for pair in reported {
         if makes(&pair.then, right) {
             return true;
         }
@@ -26,16 +26,16 @@ pub(crate) fn first_pairs(
     most: usize,
 ) -> Result<Vec<Pair>, AllocError>
     requires { AllPairs IsCheaper found.items }
-    ensures { IfOk result (λ told. AreFirstOf found.items most told.items) }
+    ensures { IfOk result (λ reported. AreFirstOf found.items most reported.items) }
 {
-    let mut told: Vec<Pair> = Vec::new(alloc);
+    let mut reported: Vec<Pair> = Vec::new(alloc);
     for pair in found {
-        if told.len() == most {
-            return Ok(told);
+        if reported.len() == most {
+            return Ok(reported);
         }
-        if !is_made_by(told.as_slice(), pair.then.right.as_slice()) {
-            told.push(pair)?;
+        if !is_made_by(reported.as_slice(), pair.then.right.as_slice()) {
+            reported.push(pair)?;
         }
     }
-    Ok(told)
+    Ok(reported)
 }

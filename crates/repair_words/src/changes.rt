@@ -1,9 +1,9 @@
 //! A change in words.
 
 use crate::slips::push_slip;
+use explain_parts::say_of_line;
 use gcg_read::{Event, Players};
-use record_changes::{Change, Spot, spot_of};
-use sentence_parts::say_of_line;
+use repair_changes::{Change, Spot, spot_of};
 use std::alloc::AllocError;
 
 /// Appends where a change is in the file.
@@ -11,7 +11,7 @@ fn push_spot(text: &mut Vec<u8>, spot: Spot) -> Result<(), AllocError> {
     match spot {
         Spot::On(line) => say_of_line(text, "line ", line, ": "),
         Spot::Before(line) => say_of_line(text, "before line ", line, ": "),
-        Spot::Behind(line) => say_of_line(text, "after line ", line, ": "),
+        Spot::After(line) => say_of_line(text, "after line ", line, ": "),
     }
 }
 

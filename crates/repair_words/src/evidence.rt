@@ -1,11 +1,11 @@
 //! The evidence for a repair: which numbers of the sheet are right then and which are not, and which words are not in the list.
 
-use decimal_text::push_number;
-use event_notes::SpelledWord;
-use game_sheets::{WrongNumber, due};
-use record_repairs::Remains;
-use sentence_parts::{Part, say};
+use explain_parts::{Part, say};
+use game_bests::SpelledWord;
+use game_corrections::{WrongNumber, due};
+use repair_single::Remains;
 use std::alloc::AllocError;
+use text_decimals::push_number;
 
 /// Appends a number of a line that is wrong, and the right one.
 fn push_on_line(

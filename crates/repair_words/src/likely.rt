@@ -3,8 +3,8 @@
 use crate::changes::push_change;
 use crate::evidence::{push_evidence, push_share};
 use gcg_read::Record;
-use record_changes::numbers_with;
-use record_repairs::Repair;
+use repair_changes::numbers_with;
+use repair_single::Repair;
 use std::alloc::AllocError;
 
 /// Appends the change of a repair of a record: where it is in the file, what should be there, and what is.

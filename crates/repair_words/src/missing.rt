@@ -2,10 +2,10 @@
 
 use crate::names::nick;
 use crate::words::push_play;
+use explain_parts::{Part, say};
 use gcg_read::{Players, Points, Seat};
-use record_changes::{MissingLine, RightPlay};
 use ref_tiles::Counts;
-use sentence_parts::{Part, say};
+use repair_changes::{MissingLine, RightPlay};
 use std::alloc::AllocError;
 
 /// Appends what a player did.

@@ -1,12 +1,12 @@
 //! A slip of the whole sheet in words.
 
 use crate::words::push_position;
+use explain_parts::say_of_line;
 use gcg_read::Event;
+use gcg_unread::{UnreadLine, UnreadWhy};
 use ref_board::{Dir, Square};
-use sentence_parts::say_of_line;
-use sheet_slips::{RunningSlip, SheetSlip, Way, changes};
+use repair_sheets::{RunningSlip, SheetSlip, Way, changes};
 use std::alloc::AllocError;
-use unread_lines::{UnreadLine, UnreadWhy};
 
 /// Appends what is wrong with a line that is not read.
 fn push_unread(text: &mut Vec<u8>, line: UnreadLine) -> Result<(), AllocError> {

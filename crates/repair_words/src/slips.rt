@@ -4,11 +4,11 @@ use crate::missing::push_missing;
 use crate::names::nick;
 use crate::plays::{have_one_position, have_one_word};
 use crate::words::{push_kind, push_position, push_word};
+use explain_parts::{Part, say};
 use gcg_read::{Event, EventKind, Players};
-use record_changes::{Misread, Slip, SpellingSlip, TilesOf};
 use ref_board::{Dir, Square};
 use ref_tiles::{Kind, Symbol};
-use sentence_parts::{Part, say};
+use repair_changes::{Misread, Slip, SpellingSlip, TilesOf};
 use std::alloc::AllocError;
 
 /// Appends the words between what should be there and what is.

@@ -1,9 +1,9 @@
 //! The words for what should be on a line, and for what is there.
 
+use explain_parts::{Part, say};
 use gcg_read::EventKind;
 use ref_board::{Dir, Square};
 use ref_tiles::Symbol;
-use sentence_parts::{Part, say};
 use std::alloc::AllocError;
 
 /// Appends the position of a play as records write it: row and column if it goes across, column and row if it goes down.

@@ -1,16 +1,16 @@
 -- What was found, written.
 use Rattle.std.proofs.Common.{◌≡◌, ℕ, List, Result, Ok, Err, IfSome, refl, sym, subst}
 use Rattle.std.specs.Io.KnownBytes.{Appends}
-use Rattle.devices.specs.Devices.{Device, HasWorked}
-use Rattle.call_stages.specs.declared.decisions.Decision.{Decision}
-use Rattle.call_stages.specs.declared.faults.RunFault.{RunFault}
-use Rattle.call_stages.specs.declared.faults.RunFault.TheVariants as run
-use Rattle.call_stages.specs.declared.verdicts.Verdict.{Verdict}
-use Rattle.call_stages.specs.Runs.{Gives, StopsReading, outcomes}
-use Rattle.call_stages.specs.Sources.{Source, AllHaveWorked}
-use Rattle.exit_statuses.specs.Exits.{status_of}
-use Rattle.serve_answers.specs.declared.replies.Reply.{Reply}
-use Rattle.serve_answers.specs.declared.printed.Printed.{Printed}
+use Rattle.io_devices.specs.Devices.{Device, HasWorked}
+use Rattle.engine_stages.specs.declared.decisions.Decision.{Decision}
+use Rattle.engine_stages.specs.declared.faults.RunFault.{RunFault}
+use Rattle.engine_stages.specs.declared.faults.RunFault.TheVariants as run
+use Rattle.engine_stages.specs.declared.verdicts.Verdict.{Verdict}
+use Rattle.engine_stages.specs.Runs.{Gives, StopsReading, outcomes}
+use Rattle.engine_stages.specs.Sources.{Source, AllHaveWorked}
+use Rattle.cli_exits.specs.Exits.{status_of}
+use Rattle.reply_answers.specs.declared.replies.Reply.{Reply}
+use Rattle.reply_answers.specs.declared.printed.Printed.{Printed}
 use Rattle.reply_calls.specs.declared.ended.Ended.{Ended}
 use Rattle.reply_calls.specs.Endings.{status_of_found, refused_of}
 use Rattle.reply_calls.specs.Calls.{IsWriting, StopsWriting, GivesUpBy, IsReplying}

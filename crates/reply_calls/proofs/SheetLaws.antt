@@ -2,19 +2,19 @@
 use Rattle.std.proofs.Common.{◌≡◌, ℕ, Bool, List, [], ◌∷◌, Option, Result, Ok, Err, refl, sym, subst}
 use Rattle.ref_tiles.specs.declared.rulebook.Rules.{Rules}
 use Rattle.gcg_read.specs.Records.{most_bytes}
-use Rattle.devices.specs.Devices.{Device}
-use Rattle.call_stages.specs.declared.decisions.Decision.{Decision}
-use Rattle.call_stages.specs.declared.faults.RunFault.{RunFault}
-use Rattle.call_stages.specs.declared.faults.RunFault.TheVariants as run
-use Rattle.call_stages.specs.declared.verdicts.Verdict.{Verdict}
-use Rattle.call_stages.specs.declared.verdicts.Verdict.TheVariants as verdict
-use Rattle.call_stages.specs.Runs.{Gives, outcomes}
-use Rattle.call_stages.specs.Sources.{game_source}
-use Rattle.call_stages.specs.Stages.{IsRead}
-use Rattle.call_stages.proofs.Giving.{gives_failed, gives_stopped, gives_last, gives_good}
-use Rattle.serve_requests.specs.declared.requests.Request.{Request}
-use Rattle.serve_requests.specs.declared.tasks.Task.{Task}
-use Rattle.serve_answers.specs.declared.replies.Reply.{Reply}
+use Rattle.io_devices.specs.Devices.{Device}
+use Rattle.engine_stages.specs.declared.decisions.Decision.{Decision}
+use Rattle.engine_stages.specs.declared.faults.RunFault.{RunFault}
+use Rattle.engine_stages.specs.declared.faults.RunFault.TheVariants as run
+use Rattle.engine_stages.specs.declared.verdicts.Verdict.{Verdict}
+use Rattle.engine_stages.specs.declared.verdicts.Verdict.TheVariants as verdict
+use Rattle.engine_stages.specs.Runs.{Gives, outcomes}
+use Rattle.engine_stages.specs.Sources.{game_source}
+use Rattle.engine_stages.specs.Stages.{IsRead}
+use Rattle.engine_stages.proofs.Giving.{gives_failed, gives_stopped, gives_last, gives_good}
+use Rattle.reply_requests.specs.declared.requests.Request.{Request}
+use Rattle.reply_requests.specs.declared.tasks.Task.{Task}
+use Rattle.reply_answers.specs.declared.replies.Reply.{Reply}
 use Rattle.reply_calls.specs.Found.{IsReplyBy, IsReplyOn, IsReplyOnBoth, IsBoardOn, IsBoardFound, IsFoundAlone, IsFoundOn, IsFoundOnSecond, IsFoundOnBoth}
 
 -- what a sheet gives: its bytes
@@ -25,7 +25,7 @@ AreItems items text bytes = items bytes ≡ text
 pub alone : (asked : Request) (rules : Rules) (list : List (List ℕ)) (reply : Reply) → IsReplyBy rules list asked reply → Gives outcomes [] (IsFoundAlone asked rules list) (Ok (Ok reply))
 alone asked rules list reply is =
     record {
-      answered = record { texts = []; given = tt; answer = (is, record { verdict_is = refl; told = refl }) };
+      answered = record { texts = []; given = tt; answer = (is, record { verdict_is = refl; reported = refl }) };
       worked = tt;
       gave_up = tt;
       within = tt;
@@ -42,7 +42,7 @@ pub on_sheet : {B : Type 0} (items : B → List ℕ) (old new : Device) (asked :
     → Gives outcomes (game_source old new ∷ []) (IsFoundOn asked rules list) (Ok (Ok reply))
 on_sheet items old new asked rules list bytes reply read is =
     gives_last outcomes (game_source old new) (AreItems items) (IsFoundOn asked rules list) bytes (Ok reply) read
-    (λ text means. (subst (λ t. IsReplyOn rules list asked t reply) means is, record { verdict_is = refl; told = refl }))
+    (λ text means. (subst (λ t. IsReplyOn rules list asked t reply) means is, record { verdict_is = refl; reported = refl }))
 
 pub no_reply : {B : Type 0} (items : B → List ℕ) (old new : Device) (asked : Task) (rules : Rules) (list : List (List ℕ)) (bytes : B) (fault : RunFault)
     → IsRead most_bytes old new (AreItems items) (Ok bytes) → fault ≡ run.NoMemory
@@ -61,7 +61,7 @@ pub on_board : {B : Type 0} (items : B → List ℕ) (old new : Device) (line : 
     → Gives outcomes (game_source old new ∷ []) (IsBoardFound line rules) (Ok (Ok reply))
 on_board items old new line rules bytes reply read is =
     gives_last outcomes (game_source old new) (AreItems items) (IsBoardFound line rules) bytes (Ok reply) read
-    (λ text means. (subst (λ t. IsBoardOn rules line t reply) means is, record { verdict_is = refl; told = refl }))
+    (λ text means. (subst (λ t. IsBoardOn rules line t reply) means is, record { verdict_is = refl; reported = refl }))
 
 pub no_board : {B : Type 0} (items : B → List ℕ) (old new : Device) (line : Option ℕ) (rules : Rules) (bytes : B) (fault : RunFault)
     → IsRead most_bytes old new (AreItems items) (Ok bytes) → fault ≡ run.NoMemory
@@ -80,7 +80,7 @@ pub on_second : {B : Type 0} (items : B → List ℕ) (old new : Device) (merged
     → Gives outcomes (game_source old new ∷ []) (IsFoundOnSecond merged rules list one) (Ok (Ok reply))
 on_second items old new merged rules list one bytes reply read is =
     gives_last outcomes (game_source old new) (AreItems items) (IsFoundOnSecond merged rules list one) bytes (Ok reply) read
-    (λ text means. (subst (λ t. IsReplyOnBoth rules list merged one t reply) means is, record { verdict_is = refl; told = refl }))
+    (λ text means. (subst (λ t. IsReplyOnBoth rules list merged one t reply) means is, record { verdict_is = refl; reported = refl }))
 
 pub no_reply_on_both : {B : Type 0} (items : B → List ℕ) (old new : Device) (merged : Bool) (rules : Rules) (list : List (List ℕ)) (one : List ℕ) (bytes : B) (fault : RunFault)
     → IsRead most_bytes old new (AreItems items) (Ok bytes) → fault ≡ run.NoMemory

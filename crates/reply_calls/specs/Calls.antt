@@ -1,16 +1,16 @@
 -- What a call writes of what it found.
 use Rattle.std.specs.Prelude.{◌≡◌, ℕ, List, Result, IfOk, IfErr, IfSome, OnOk}
 use Rattle.std.specs.Io.KnownBytes.{Appends}
-use Rattle.devices.specs.Devices.{Device, HasWorked}
-use Rattle.call_stages.specs.declared.decisions.Decision.{Decision}
-use Rattle.call_stages.specs.declared.faults.RunFault.{RunFault}
-use Rattle.call_stages.specs.declared.faults.RunFault.TheVariants as run
-use Rattle.call_stages.specs.declared.verdicts.Verdict.{Verdict}
-use Rattle.call_stages.specs.Runs.{IsAnswered, outcome_verdict, outcome_report}
-use Rattle.call_stages.specs.Sources.{Source, AllHaveWorked, OneHasFailed, AreWithin}
-use Rattle.exit_statuses.specs.Exits.{status_of}
-use Rattle.serve_answers.specs.declared.replies.Reply.{Reply}
-use Rattle.serve_answers.specs.declared.printed.Printed.{Printed}
+use Rattle.io_devices.specs.Devices.{Device, HasWorked}
+use Rattle.engine_stages.specs.declared.decisions.Decision.{Decision}
+use Rattle.engine_stages.specs.declared.faults.RunFault.{RunFault}
+use Rattle.engine_stages.specs.declared.faults.RunFault.TheVariants as run
+use Rattle.engine_stages.specs.declared.verdicts.Verdict.{Verdict}
+use Rattle.engine_stages.specs.Runs.{IsAnswered, outcome_verdict, outcome_report}
+use Rattle.engine_stages.specs.Sources.{Source, AllHaveWorked, OneHasFailed, AreWithin}
+use Rattle.cli_exits.specs.Exits.{status_of}
+use Rattle.reply_answers.specs.declared.replies.Reply.{Reply}
+use Rattle.reply_answers.specs.declared.printed.Printed.{Printed}
 use Rattle.reply_calls.specs.declared.ended.Ended.{Ended}
 use Rattle.reply_calls.specs.Endings.{status_of_found, refused_of}
 

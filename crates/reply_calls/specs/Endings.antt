@@ -1,9 +1,9 @@
 -- How a call ends after what was found.
 use Rattle.std.specs.Prelude.{ℕ, Option, Some, None, Result, Ok, Err}
-use Rattle.call_stages.specs.declared.decisions.Decision.{Decision}
-use Rattle.exit_statuses.specs.Exits.{status_of, exit_of}
-use Rattle.serve_answers.specs.declared.replies.Reply.{Reply}
-use Rattle.serve_answers.specs.Exits.{status_of_reply}
+use Rattle.engine_stages.specs.declared.decisions.Decision.{Decision}
+use Rattle.cli_exits.specs.Exits.{status_of, exit_of}
+use Rattle.reply_answers.specs.declared.replies.Reply.{Reply}
+use Rattle.reply_answers.specs.Exits.{status_of_reply}
 
 -- the status after what was found: a reply, or that an input is bad
 abbrev pub status_of_found : Result Reply Decision → ℕ

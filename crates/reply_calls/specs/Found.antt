@@ -2,18 +2,18 @@
 use Rattle.std.proofs.Common.{◌≡◌, sym, subst, ℕ, Bool, List, [], ◌∷◌, length, Option, Result, Ok, Err}
 use Rattle.std.specs.Borrow.{Bor}
 use Rattle.ref_tiles.specs.declared.rulebook.Rules.{Rules}
-use Rattle.call_stages.specs.declared.decisions.Decision.{Decision}
-use Rattle.call_stages.specs.declared.verdicts.Verdict.{Verdict}
-use Rattle.call_stages.specs.declared.verdicts.Verdict.TheVariants as verdict
-use Rattle.call_stages.specs.Reading.{ReadsNoMore, ReadsNext}
-use Rattle.call_stages.specs.Telling.{IsTold, IsLater}
+use Rattle.engine_stages.specs.declared.decisions.Decision.{Decision}
+use Rattle.engine_stages.specs.declared.verdicts.Verdict.{Verdict}
+use Rattle.engine_stages.specs.declared.verdicts.Verdict.TheVariants as verdict
+use Rattle.engine_stages.specs.Reading.{ReadsNoMore, ReadsNext}
+use Rattle.engine_stages.specs.Reporting.{IsReported, IsLater}
 use Rattle.page_answers.specs.declared.makers.Maker.{Maker}
-use Rattle.serve_requests.specs.declared.tasks.Task.{Task}
-use Rattle.serve_requests.specs.declared.requests.Request.{Request}
-use Rattle.serve_requests.specs.declared.requests.Request.TheVariants as request
-use Rattle.serve_requests.specs.Tasks.{request_of}
-use Rattle.serve_answers.specs.declared.replies.Reply.{Reply}
-use Rattle.serve_answers.specs.Replies.{IsReplyTo, IsReplyByRules}
+use Rattle.reply_requests.specs.declared.tasks.Task.{Task}
+use Rattle.reply_requests.specs.declared.requests.Request.{Request}
+use Rattle.reply_requests.specs.declared.requests.Request.TheVariants as request
+use Rattle.reply_requests.specs.Tasks.{request_of}
+use Rattle.reply_answers.specs.declared.replies.Reply.{Reply}
+use Rattle.reply_answers.specs.Replies.{IsReplyTo, IsReplyByRules}
 
 -- What pages are made by says how many words the list has.
 abbrev pub IsMakerOf : (list : List (List ℕ)) → Maker → Type 0
@@ -27,7 +27,7 @@ pub record IsReplyBy (rules : Rules) (list : List (List ℕ)) (asked : Request) 
 
 -- what is found for a request that is about no sheet
 abbrev pub IsFoundAlone : Request → Rules → (list : List (List ℕ)) → Result Reply Decision → (texts : List (List ℕ)) → Verdict → List ℕ → Type 0
-IsFoundAlone asked rules list (Ok reply) texts v report = ReadsNoMore (λ w said. IsReplyBy rules list asked reply × IsTold verdict.Done [] w said) texts v report
+IsFoundAlone asked rules list (Ok reply) texts v report = ReadsNoMore (λ w said. IsReplyBy rules list asked reply × IsReported verdict.Done [] w said) texts v report
 IsFoundAlone asked rules list (Err d) texts v report = ⊥
 
 -- the reply to the request that asks this of the sheet with these bytes
@@ -46,13 +46,13 @@ pub record IsReplyOnBoth (rules : Rules) (list : List (List ℕ)) (merged : Bool
 
 -- what is found once the sheet is read
 abbrev pub IsFoundOn : Task → Rules → (list : List (List ℕ)) → Result Reply Decision → (texts : List (List ℕ)) → Verdict → List ℕ → Type 0
-IsFoundOn asked rules list (Ok reply) texts v report = ReadsNext (λ text. ReadsNoMore (λ w said. IsReplyOn rules list asked text reply × IsTold verdict.Done [] w said)) texts v report
+IsFoundOn asked rules list (Ok reply) texts v report = ReadsNext (λ text. ReadsNoMore (λ w said. IsReplyOn rules list asked text reply × IsReported verdict.Done [] w said)) texts v report
 IsFoundOn asked rules list (Err d) texts v report = ⊥
 
 -- what is found once the second of two sheets is read, and once both are
 abbrev pub IsFoundOnSecond : (merged : Bool) → Rules → (list : List (List ℕ)) → (one : List ℕ) → Result Reply Decision → (texts : List (List ℕ)) → Verdict → List ℕ → Type 0
 IsFoundOnSecond merged rules list one (Ok reply) texts v report =
-    ReadsNext (λ other. ReadsNoMore (λ w said. IsReplyOnBoth rules list merged one other reply × IsTold verdict.Done [] w said)) texts v report
+    ReadsNext (λ other. ReadsNoMore (λ w said. IsReplyOnBoth rules list merged one other reply × IsReported verdict.Done [] w said)) texts v report
 IsFoundOnSecond merged rules list one (Err d) texts v report = ⊥
 
 abbrev pub IsFoundOnBoth : (merged : Bool) → Rules → (list : List (List ℕ)) → Result Reply Decision → (texts : List (List ℕ)) → Verdict → List ℕ → Type 0
@@ -66,7 +66,7 @@ pub record IsBoardOn (rules : Rules) (line : Option ℕ) (text : List ℕ) (repl
 
 -- what is found once the rules and the sheet are read, without words
 abbrev pub IsBoardFound : (line : Option ℕ) → Rules → Result Reply Decision → (texts : List (List ℕ)) → Verdict → List ℕ → Type 0
-IsBoardFound line rules (Ok reply) texts v report = ReadsNext (λ text. ReadsNoMore (λ w said. IsBoardOn rules line text reply × IsTold verdict.Done [] w said)) texts v report
+IsBoardFound line rules (Ok reply) texts v report = ReadsNext (λ text. ReadsNoMore (λ w said. IsBoardOn rules line text reply × IsReported verdict.Done [] w said)) texts v report
 IsBoardFound line rules (Err d) texts v report = ⊥
 
 -- ---- none of these says that an input that is read before is bad

@@ -1,8 +1,8 @@
 //! The calls.
 ghost use Rattle.std.specs.Prelude.{◌∷◌, ◌++◌, []};
-ghost use Rattle.devices.specs.Devices.{HasRoom};
-ghost use Rattle.call_stages.specs.Reading.{ReadsPair, ReadsRulesBut};
-ghost use Rattle.call_stages.specs.Sources.{game_source, pair_sources, rules_sources};
+ghost use Rattle.io_devices.specs.Devices.{HasRoom};
+ghost use Rattle.engine_stages.specs.Reading.{ReadsPair, ReadsRulesBut};
+ghost use Rattle.engine_stages.specs.Sources.{game_source, pair_sources, rules_sources};
 ghost use Rattle.reply_calls.specs.Calls.{IsReplying};
 ghost use Rattle.reply_calls.specs.Found.{IsBoardFound, IsFoundAlone, IsFoundOn, IsFoundOnBoth};
 
@@ -12,9 +12,9 @@ use crate::outlets::Outlet;
 use crate::questions::{OneSheet, RequestQuestion, SheetQuestion, SheetsQuestion, TwoSheets};
 use crate::renderings::{PageMaker, Rendering};
 use crate::writing::write_found;
-use call_stages::{RulesSource, RunFault, ask};
-use devices::{Input, Output};
-use serve_requests::{Request, Task};
+use engine_stages::{RulesSource, RunFault, ask};
+use io_devices::{Input, Output};
+use reply_requests::{Request, Task};
 use std::alloc::Global;
 
 /// Reads the rules if they are not known, the words of a list and their lexicon, in this order until one is bad, and writes what is found: the reply to a

@@ -1,11 +1,11 @@
 //! How a call ended.
 ghost use Rattle.std.specs.Prelude.{◌≡◌};
-ghost use Rattle.exit_statuses.specs.Exits.{status_of};
+ghost use Rattle.cli_exits.specs.Exits.{status_of};
 ghost use Rattle.reply_calls.specs.Endings.{status_of_found, refused_of};
 
-use call_stages::Decision;
-use exit_statuses::Exit;
-use serve_answers::{Reply, exit_of_reply};
+use cli_exits::Exit;
+use engine_stages::Decision;
+use reply_answers::{Reply, exit_of_reply};
 
 /// How a call ended.
 #[derive(Drop)]

@@ -1,27 +1,27 @@
 //! What is found of sheets that are read.
 ghost use Rattle.std.specs.Prelude.{◌≡◌, ◌∷◌, ◌++◌, [], IfOk, OnOk};
-ghost use Rattle.devices.specs.Devices.{HasRoom};
+ghost use Rattle.io_devices.specs.Devices.{HasRoom};
 ghost use Rattle.gcg_read.specs.Records.{most_bytes};
 ghost use Rattle.lex_check.specs.Pairs.{list_in};
-ghost use Rattle.call_stages.specs.Reading.{ReadsRulesBut};
-ghost use Rattle.call_stages.specs.Runs.{Gives, outcomes};
-ghost use Rattle.call_stages.specs.Sources.{game_source, rules_sources};
-ghost use Rattle.call_stages.specs.Stages.{IsRead};
-ghost use Rattle.serve_answers.specs.Given.{FailsForMemoryAlone};
+ghost use Rattle.engine_stages.specs.Reading.{ReadsRulesBut};
+ghost use Rattle.engine_stages.specs.Runs.{Gives, outcomes};
+ghost use Rattle.engine_stages.specs.Sources.{game_source, rules_sources};
+ghost use Rattle.engine_stages.specs.Stages.{IsRead};
+ghost use Rattle.reply_answers.specs.Given.{FailsForMemoryAlone};
 ghost use Rattle.reply_calls.specs.Found.{IsReplyBy, IsReplyOn, IsReplyOnBoth, IsBoardOn, IsBoardFound, IsFoundAlone, IsFoundOn, IsFoundOnSecond, IsFoundOnBoth};
 
 use crate::renderings::PageMaker;
-use call_stages::{Decision, Given, RulesSource, RunFault, read_text};
-use devices::Input;
+use engine_stages::{Decision, Given, RulesSource, RunFault, read_text};
+use game_known::KnownBests;
 use gcg_read::MAX_BYTES;
-use known_bests::KnownBests;
+use io_devices::Input;
 use ref_tiles::Rules;
-use serve_answers::{Judges, Reply, board_reply, reply_to};
-use serve_requests::{Request, Task};
+use reply_answers::{Judges, Reply, board_reply, reply_to};
+use reply_requests::{Request, Task};
 use std::alloc::Global;
 
 /// The bytes of a sheet, to their end or to one byte past 1 MiB.
-#[tactic(auto, using(call_stages::proofs::Readings::whole, call_stages::proofs::Readings::failed))]
+#[tactic(auto, using(engine_stages::proofs::Readings::whole, engine_stages::proofs::Readings::failed))]
 fn read_sheet<G: Input>(alloc: Global, sheet: &mut G) -> Result<Vec<u8>, RunFault>
     requires { HasRoom (G.device sheet.old) }
     ensures { IsRead most_bytes (G.device sheet.old) (G.device sheet.new) (λ text bytes. bytes.items ≡ text) result }

@@ -1,15 +1,15 @@
 //! What is asked once the rules, the words and the lexicon are read.
 ghost use Rattle.std.specs.Prelude.{⊤, ◌∷◌, [], refl};
-ghost use Rattle.devices.specs.Devices.{HasRoom};
-ghost use Rattle.call_stages.specs.Sources.{game_source};
+ghost use Rattle.io_devices.specs.Devices.{HasRoom};
+ghost use Rattle.engine_stages.specs.Sources.{game_source};
 ghost use Rattle.reply_calls.specs.Found.{IsFoundAlone, IsFoundOn, IsFoundOnBoth, alone_later, found_later, both_later};
 
 use crate::finding::{find_alone, find_on, find_on_both};
 use crate::renderings::PageMaker;
-use call_stages::{Decision, Given, Question, RunFault};
-use devices::Input;
-use serve_answers::Reply;
-use serve_requests::{Request, Task};
+use engine_stages::{Decision, Given, Question, RunFault};
+use io_devices::Input;
+use reply_answers::Reply;
+use reply_requests::{Request, Task};
 use std::alloc::Global;
 
 /// One sheet, which is read.

@@ -1,14 +1,14 @@
 //! What is written of what was found, and what pages are made by.
 ghost use Rattle.std.specs.Prelude.{IfOk, Result};
 ghost use Rattle.lex_check.specs.Pairs.{list_in};
-ghost use Rattle.call_stages.specs.declared.decisions.Decision.{Decision};
-ghost use Rattle.serve_answers.specs.declared.replies.Reply.{Reply};
-ghost use Rattle.serve_answers.specs.declared.printed.Printed.{Printed};
+ghost use Rattle.engine_stages.specs.declared.decisions.Decision.{Decision};
+ghost use Rattle.reply_answers.specs.declared.replies.Reply.{Reply};
+ghost use Rattle.reply_answers.specs.declared.printed.Printed.{Printed};
 ghost use Rattle.reply_calls.specs.Found.{IsMakerOf};
 
-use call_stages::{Decision, Given};
+use engine_stages::{Decision, Given};
 use page_answers::Maker;
-use serve_answers::{Printed, Reply};
+use reply_answers::{Printed, Reply};
 use std::alloc::{AllocError, Global};
 
 /// What the pages of replies are made by.

@@ -1,16 +1,16 @@
 //! How what was found is written.
 ghost use Rattle.std.specs.Prelude.{◌≡◌, IfErr, IfSome, OnOk, OnErr};
 ghost use Rattle.std.specs.Io.KnownBytes.{Appends};
-ghost use Rattle.devices.specs.Devices.{HasRoom, HasWorked};
-ghost use Rattle.call_stages.specs.declared.faults.RunFault.TheVariants.{WriteFailed};
+ghost use Rattle.io_devices.specs.Devices.{HasRoom, HasWorked};
+ghost use Rattle.engine_stages.specs.declared.faults.RunFault.TheVariants.{WriteFailed};
 ghost use Rattle.reply_calls.specs.Calls.{IsWriting};
 
 use crate::ended::{Ended, exit_of_found, refused_of};
 use crate::outlets::Outlet;
 use crate::renderings::Rendering;
-use call_stages::{Decision, RunFault};
-use devices::{Output, write_whole};
-use serve_answers::{Printed, Reply};
+use engine_stages::{Decision, RunFault};
+use io_devices::{Output, write_whole};
+use reply_answers::{Printed, Reply};
 use std::alloc::Global;
 
 /// Keeps a text, if there is one.

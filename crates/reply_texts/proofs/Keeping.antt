@@ -1,9 +1,9 @@
 -- The repaired sheet that is kept, if it is requested.
 use Rattle.std.proofs.Common.{◌≡◌, inl, inr, ℕ, true, List, Option, Some, None, Result, Ok, Err, IfOk, sym, subst}
 use Rattle.std.specs.Prelude.{MatchOption}
-use Rattle.kept_sheets.specs.Kept.{IsRepairedText, IsNoRepairedText}
-use Rattle.serve_answers.specs.declared.printed.Printed.{Printed}
-use Rattle.serve_answers.specs.declared.repaired.RepairedCase.{RepairedCase}
+use Rattle.repair_chosen.specs.Kept.{IsRepairedText, IsNoRepairedText}
+use Rattle.reply_answers.specs.declared.printed.Printed.{Printed}
+use Rattle.reply_answers.specs.declared.repaired.RepairedCase.{RepairedCase}
 use Rattle.reply_texts.specs.Kept.{has_nothing, IsSheetKept, IsNoSheetKept}
 
 -- the sheet of the case, since it is requested

@@ -4,18 +4,18 @@ use Rattle.gcg_read.specs.declared.faults.ReadFault.{ReadFault}
 use Rattle.gcg_read.specs.declared.records.Record.{Record}
 use Rattle.gcg_write.specs.Normal.{normal_of}
 use Rattle.gcg_numbers.specs.Numbers.{text_with}
-use Rattle.call_stages.specs.declared.decisions.Decision.{Decision}
+use Rattle.engine_stages.specs.declared.decisions.Decision.{Decision}
 use Rattle.game_case.specs.declared.entries.Entry.{Entry}
 use Rattle.game_case.specs.declared.findings.Finding.{Finding}
 use Rattle.game_case.specs.declared.findings.Finding.TheVariants as finding
-use Rattle.audit_lines.specs.declared.answers.AuditAnswer.{AuditAnswer}
-use Rattle.audit_lines.specs.Standing.{is_written}
-use Rattle.comparison_answers.specs.declared.found.WhyNotMerged.{WhyNotMerged}
-use Rattle.kept_sheets.specs.Kept.{IsRepairedText, IsNoRepairedText}
-use Rattle.serve_answers.specs.declared.audited.AuditedSheet.{AuditedSheet}
-use Rattle.serve_answers.specs.declared.compared.SheetsFound.{SheetsFound}
-use Rattle.serve_answers.specs.declared.compared.SheetsFound.TheVariants as sheets
-use Rattle.serve_answers.specs.declared.repaired.RepairedCase.{RepairedCase}
+use Rattle.sheet_audit.specs.declared.answers.AuditAnswer.{AuditAnswer}
+use Rattle.sheet_audit.specs.Standing.{is_written}
+use Rattle.compare_answers.specs.declared.found.WhyNotMerged.{WhyNotMerged}
+use Rattle.repair_chosen.specs.Kept.{IsRepairedText, IsNoRepairedText}
+use Rattle.reply_answers.specs.declared.audited.AuditedSheet.{AuditedSheet}
+use Rattle.reply_answers.specs.declared.compared.SheetsFound.{SheetsFound}
+use Rattle.reply_answers.specs.declared.compared.SheetsFound.TheVariants as sheets
+use Rattle.reply_answers.specs.declared.repaired.RepairedCase.{RepairedCase}
 
 -- ---- the corrected record of an audit
 
@@ -64,7 +64,7 @@ IsMergedText (sheets.Both both) text = IsNormalForm both.answer.merged text
 IsMergedText (sheets.FirstBad why) text = ⊥
 IsMergedText (sheets.SecondBad why) text = ⊥
 
--- ---- the repaired sheet, which `kept_sheets` defines
+-- ---- the repaired sheet, which `repair_chosen` defines
 
 -- whether a text is a record without an event
 abbrev pub has_nothing : Result Entry ReadFault → Bool

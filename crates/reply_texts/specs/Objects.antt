@@ -3,36 +3,36 @@ use Rattle.std.specs.Prelude.{◌≡◌, ◌&&◌, ℕ, Bool, true, false, List,
 use Rattle.json.specs.Json.{Json}
 use Rattle.json_trees.specs.Texts.{json_line}
 use Rattle.gcg_read.specs.declared.faults.ReadFault.{ReadFault}
-use Rattle.unread_lines.specs.declared.lines.UnreadLine.{UnreadLine}
-use Rattle.unread_lines.specs.Lines.{unread_of}
-use Rattle.call_stages.specs.declared.decisions.Decision.{Decision}
-use Rattle.call_stages.specs.declared.verdicts.Verdict.{Verdict}
-use Rattle.call_stages.specs.declared.verdicts.Verdict.TheVariants as verdict
+use Rattle.gcg_unread.specs.declared.lines.UnreadLine.{UnreadLine}
+use Rattle.gcg_unread.specs.Lines.{unread_of}
+use Rattle.engine_stages.specs.declared.decisions.Decision.{Decision}
+use Rattle.engine_stages.specs.declared.verdicts.Verdict.{Verdict}
+use Rattle.engine_stages.specs.declared.verdicts.Verdict.TheVariants as verdict
 use Rattle.game_answers.specs.declared.boards.ShownBoard.{ShownBoard}
 use Rattle.game_answers.specs.declared.games.JudgedGame.{JudgedGame}
 use Rattle.game_answers.specs.declared.tops.FoundPlays.{FoundPlays}
 use Rattle.game_case.specs.declared.entries.Entry.{Entry}
-use Rattle.explanations.specs.declared.explaining.Explanation.{Explanation}
-use Rattle.audit_lines.specs.declared.answers.AuditAnswer.{AuditAnswer}
-use Rattle.audit_lines.specs.Standing.{is_written}
+use Rattle.explain_events.specs.declared.explaining.Explanation.{Explanation}
+use Rattle.sheet_audit.specs.declared.answers.AuditAnswer.{AuditAnswer}
+use Rattle.sheet_audit.specs.Standing.{is_written}
 use Rattle.repair_answers.specs.declared.answers.RepairAnswer.{RepairAnswer}
 use Rattle.draft_answers.specs.declared.faults.DraftFault.{DraftFault}
 use Rattle.draft_answers.specs.declared.filled.FilledDraft.{FilledDraft}
 use Rattle.draft_answers.specs.declared.next.DraftNext.{DraftNext}
 use Rattle.page_answers.specs.declared.cases.PagedCase.{PagedCase}
 use Rattle.page_answers.specs.declared.contents.PageContents.{PageContents}
-use Rattle.annotations.specs.declared.sheets.AnnotatedSheet.{AnnotatedSheet}
-use Rattle.annotations.specs.Texts.{IsAnnotated}
-use Rattle.serve_answers.specs.declared.compared.BadSheet.{BadSheet}
-use Rattle.serve_answers.specs.declared.compared.BadSheet.TheVariants as bad
-use Rattle.serve_answers.specs.declared.compared.SheetsFound.{SheetsFound}
-use Rattle.serve_answers.specs.declared.compared.SheetsFound.TheVariants as sheets
-use Rattle.serve_answers.specs.declared.printed.Printed.{Printed}
-use Rattle.serve_answers.specs.declared.repaired.RepairedCase.{RepairedCase}
-use Rattle.serve_answers.specs.declared.replies.Reply.{Reply}
-use Rattle.serve_answers.specs.declared.replies.Reply.TheVariants as reply
-use Rattle.serve_answers.specs.declared.words.Ruled.{Ruled}
-use Rattle.answer_json.specs.Refusals.{bad_record_object, checked_object, decision_object, no_game_object}
+use Rattle.sheet_notes.specs.declared.sheets.AnnotatedSheet.{AnnotatedSheet}
+use Rattle.sheet_notes.specs.Texts.{IsAnnotated}
+use Rattle.reply_answers.specs.declared.compared.BadSheet.{BadSheet}
+use Rattle.reply_answers.specs.declared.compared.BadSheet.TheVariants as bad
+use Rattle.reply_answers.specs.declared.compared.SheetsFound.{SheetsFound}
+use Rattle.reply_answers.specs.declared.compared.SheetsFound.TheVariants as sheets
+use Rattle.reply_answers.specs.declared.printed.Printed.{Printed}
+use Rattle.reply_answers.specs.declared.repaired.RepairedCase.{RepairedCase}
+use Rattle.reply_answers.specs.declared.replies.Reply.{Reply}
+use Rattle.reply_answers.specs.declared.replies.Reply.TheVariants as reply
+use Rattle.reply_answers.specs.declared.words.Ruled.{Ruled}
+use Rattle.json_base.specs.Refusals.{bad_record_object, checked_object, decision_object, no_game_object}
 use Rattle.game_json.specs.Games.{judged_object}
 use Rattle.game_json.specs.Plays.{found_object}
 use Rattle.sheet_json.specs.Audits.{audit_object}
@@ -43,8 +43,8 @@ use Rattle.draft_json.specs.Fills.{fill_object}
 use Rattle.draft_json.specs.Nexts.{next_object}
 use Rattle.repair_json.specs.Answers.{answer_object}
 use Rattle.repair_json.specs.BadRecords.{bad_object}
-use Rattle.comparison_json.specs.Answers.{comparison_object}
-use Rattle.case_objects.specs.Cases.{case_object}
+use Rattle.compare_json.specs.Answers.{comparison_object}
+use Rattle.explain_case_json.specs.Cases.{case_object}
 use Rattle.reply_texts.specs.Bodies.{bytes_of}
 use Rattle.reply_texts.specs.Kept.{has_event, has_merged, IsCorrectedText, IsNormalForm, IsSheetKept, IsNoSheetKept}
 
@@ -107,12 +107,12 @@ tidied_text d = if is_done d.verdict then Some d.report.items else None
 
 -- ---- a page, or a sheet with notes; what `explain` says of the case if there is none
 
-abbrev pub told_of : Option PageContents → Option Explanation
-told_of None = None
-told_of (Some contents) = contents.explanation
+abbrev pub reported_of : Option PageContents → Option Explanation
+reported_of None = None
+reported_of (Some contents) = contents.explanation
 
 abbrev pub paged_object : PagedCase → Option Json
-paged_object x = if has_sheet x.case.read then None else Some (case_object x.case (told_of x.contents) x.likely (unread_of x.case.text.items))
+paged_object x = if has_sheet x.case.read then None else Some (case_object x.case (reported_of x.contents) x.likely (unread_of x.case.text.items))
 
 abbrev pub annotated_object : AnnotatedSheet → Option Json
 annotated_object sheet = if has_sheet sheet.case.read then None else Some (case_object sheet.case None None (unread_of sheet.case.text.items))
@@ -208,7 +208,7 @@ IsShownAs None (Some text) printed = (printed.report.items ≡ text) × (printed
 IsShownAs None None printed = ⊥
 
 -- a reply as a report for programs
-pub record IsInObject (told : Reply) (printed : Printed) : Type 0 where
+pub record IsInObject (reported : Reply) (printed : Printed) : Type 0 where
   pub text : Option (List ℕ)
-  pub is_text : IsText told text
-  pub shown : IsShownAs (object_of told) text printed
+  pub is_text : IsText reported text
+  pub shown : IsShownAs (object_of reported) text printed

@@ -1,6 +1,6 @@
 -- What is written of the ruling on words.
 use Rattle.std.specs.Prelude.{ℕ, Bool, true, false, List, codes, Option, Some, None}
-use Rattle.serve_answers.specs.declared.words.Ruled.{Ruled}
+use Rattle.reply_answers.specs.declared.words.Ruled.{Ruled}
 
 -- that words are acceptable, or that they are not
 unfoldable pub ruling_line : (acceptable : Bool) → List ℕ

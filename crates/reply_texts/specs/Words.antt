@@ -1,8 +1,8 @@
 -- What is written of a reply in words.
 use Rattle.std.specs.Prelude.{◌≡◌, ⊤, is_some, IfSome, MatchOption, None}
-use Rattle.serve_answers.specs.declared.printed.Printed.{Printed}
-use Rattle.serve_answers.specs.declared.replies.Reply.{Reply}
-use Rattle.serve_answers.specs.declared.replies.Reply.TheVariants as reply
+use Rattle.reply_answers.specs.declared.printed.Printed.{Printed}
+use Rattle.reply_answers.specs.declared.replies.Reply.{Reply}
+use Rattle.reply_answers.specs.declared.replies.Reply.TheVariants as reply
 use Rattle.reply_texts.specs.Rulings.{ruled_line}
 use Rattle.reply_texts.specs.Kept.{is_corrected, IsCorrectedOf, is_merged, IsMergedText, IsSheetKept, IsNoSheetKept}
 
@@ -13,4 +13,4 @@ IsInWords (reply.Ruled ruled) printed = (printed.report.items ≡ ruled_line rul
 IsInWords (reply.Audited sheet) printed = (is_some printed.kept ≡ is_corrected sheet) × IfSome printed.kept (λ text. IsCorrectedOf sheet.found text.items)
 IsInWords (reply.Compared found) printed = (is_some printed.kept ≡ is_merged found) × IfSome printed.kept (λ text. IsMergedText found text.items)
 IsInWords (reply.Repaired x) printed = MatchOption printed.kept (IsNoSheetKept x) (λ text. IsSheetKept x text.items)
-IsInWords told printed = ⊤
+IsInWords reported printed = ⊤

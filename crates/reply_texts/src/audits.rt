@@ -1,6 +1,6 @@
 //! What is written of an audit.
 ghost use Rattle.std.specs.Prelude.{◌≡◌, ◌&&◌, is_some, Some, IfOk, IfSome};
-ghost use Rattle.audit_lines.specs.Standing.{is_written};
+ghost use Rattle.sheet_audit.specs.Standing.{is_written};
 ghost use Rattle.sheet_json.specs.Audits.{audit_object};
 ghost use Rattle.reply_texts.specs.Bodies.{object_in, text_in};
 ghost use Rattle.reply_texts.specs.Kept.{has_event, is_corrected, IsCorrectedText, IsCorrectedOf};
@@ -8,14 +8,14 @@ ghost use Rattle.reply_texts.specs.Objects.{audited_of, IsAuditedOf, IsAuditedTe
 
 use crate::bodies::Body;
 use crate::cases::{NO_GAME, is_with_event};
-use answer_json::decision_tree;
-use audit_lines::{AuditAnswer, corrected_text, is_corrected, is_written, push_audit};
+use gcg_unread::UnreadLine;
+use json_base::decision_tree;
 use repair_answers::SheetAmount;
 use repair_words::push_amount;
-use serve_answers::{AuditedSheet, Printed};
+use reply_answers::{AuditedSheet, Printed};
+use sheet_audit::{AuditAnswer, corrected_text, is_corrected, is_written, push_audit};
 use sheet_json::audit_tree;
 use std::alloc::{AllocError, Global};
-use unread_lines::UnreadLine;
 
 /// Why the corrected record is not written although it stands.
 const NOT_CORRECTED: &[u8] =
@@ -44,12 +44,12 @@ pub(crate) fn push_why_not(text: &mut Vec<u8>, answer: &AuditAnswer) -> Result<(
 /// The lines of an audit; if the corrected record is requested and stands but is not written, also why.
 fn lines_of(alloc: Global, answer: &AuditAnswer, corrected: bool) -> Result<Vec<u8>, AllocError> {
     let amount = amount_line(alloc, &answer.amount)?;
-    let mut told = Vec::new(alloc);
-    push_audit(alloc, &mut told, &answer.audit, amount.as_slice())?;
+    let mut reported = Vec::new(alloc);
+    push_audit(alloc, &mut reported, &answer.audit, amount.as_slice())?;
     if corrected {
-        push_why_not(&mut told, answer)?;
+        push_why_not(&mut reported, answer)?;
     }
-    Ok(told)
+    Ok(reported)
 }
 
 /// The corrected record of an audit, if it is requested and is to be written.

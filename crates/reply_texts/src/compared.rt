@@ -1,7 +1,7 @@
 //! What is found of two sheets, in words and as an object.
 ghost use Rattle.std.specs.Prelude.{◌≡◌, ◌&&◌, is_some, Some, None, IfOk, IfSome};
 ghost use Rattle.json_trees.specs.Trees.{view};
-ghost use Rattle.comparison_json.specs.Answers.{comparison_object};
+ghost use Rattle.compare_json.specs.Answers.{comparison_object};
 ghost use Rattle.reply_texts.specs.Bodies.{object_in, text_in};
 ghost use Rattle.reply_texts.specs.Kept.{has_merged, is_merged, IsNormalForm, IsMergedText};
 ghost use Rattle.reply_texts.specs.Objects.{bad_sheet_of, compared_of, IsComparedText};
@@ -9,24 +9,24 @@ ghost use Rattle.reply_texts.specs.Objects.{bad_sheet_of, compared_of, IsCompare
 use crate::bodies::Body;
 use crate::cases::NO_GAME;
 use crate::encodings::in_utf8;
-use answer_json::{bad_record_tree, no_game_tree};
-use call_stages::bad_record_line;
-use comparison_answers::ComparisonAnswer;
-use comparison_json::comparison_tree;
-use comparison_lines::{push_choice, push_comparison};
+use compare_answers::ComparisonAnswer;
+use compare_json::comparison_tree;
+use compare_lines::{push_choice, push_comparison};
+use engine_stages::bad_record_line;
 use gcg_write::write;
+use json_base::{bad_record_tree, no_game_tree};
 use json_trees::Tree;
-use serve_answers::{BadSheet, BothCompared, Printed, SheetsFound};
+use reply_answers::{BadSheet, BothCompared, Printed, SheetsFound};
 use std::alloc::{AllocError, Global};
 
 /// What is found of two sheets; and whether the merged record is written, if it is requested. If the first sheet states its encoding, names are UTF-8.
 fn text_of(alloc: Global, both: &BothCompared) -> Result<Vec<u8>, AllocError> {
-    let mut told = Vec::new(alloc);
-    push_comparison(alloc, &mut told, &both.answer)?;
+    let mut reported = Vec::new(alloc);
+    push_comparison(alloc, &mut reported, &both.answer)?;
     if both.merged {
-        push_choice(&mut told, &both.answer)?;
+        push_choice(&mut reported, &both.answer)?;
     }
-    in_utf8(alloc, told, both.encoding)
+    in_utf8(alloc, reported, both.encoding)
 }
 
 /// The merged record in the normal form, if there is one.

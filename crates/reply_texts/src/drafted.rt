@@ -12,16 +12,16 @@ use draft_answers::{DraftFault, DraftNext, FilledDraft};
 use draft_json::{bad_draft_tree, fill_tree, next_tree};
 use draft_lines::{push_draft_fault, push_fill, push_next};
 use game_case::Finding;
+use gcg_unread::UnreadLine;
 use json_trees::Tree;
-use serve_answers::{FilledSheet, Printed};
+use reply_answers::{FilledSheet, Printed};
 use std::alloc::{AllocError, Global};
-use unread_lines::UnreadLine;
 
 /// The first fault of a draft, in words.
 fn fault_words(alloc: Global, fault: &DraftFault) -> Result<Printed, AllocError> {
-    let mut told = Vec::new(alloc);
-    push_draft_fault(alloc, &mut told, fault)?;
-    Ok(Printed::report(told))
+    let mut reported = Vec::new(alloc);
+    push_draft_fault(alloc, &mut reported, fault)?;
+    Ok(Printed::report(reported))
 }
 
 /// How many numbers were put into a draft, and the audit of the sheet that it makes; and why the record is not written, if it stands but is not.
@@ -30,10 +30,10 @@ fn lines_of(alloc: Global, draft: &FilledDraft) -> Result<Vec<u8>, AllocError> {
         return Vec::from_slice(alloc, NO_GAME);
     }
     let amount = amount_line(alloc, &draft.answer.amount)?;
-    let mut told = Vec::new(alloc);
-    push_fill(alloc, &mut told, draft, amount.as_slice())?;
-    push_why_not(&mut told, &draft.answer)?;
-    Ok(told)
+    let mut reported = Vec::new(alloc);
+    push_fill(alloc, &mut reported, draft, amount.as_slice())?;
+    push_why_not(&mut reported, &draft.answer)?;
+    Ok(reported)
 }
 
 /// The text of the record that a draft makes, if there is one.
@@ -94,9 +94,9 @@ pub fn next_words(
     match found {
         Err(fault) => fault_words(alloc, fault),
         Ok(draft) => {
-            let mut told = Vec::new(alloc);
-            push_next(alloc, &mut told, draft)?;
-            Ok(Printed::report(told))
+            let mut reported = Vec::new(alloc);
+            push_next(alloc, &mut reported, draft)?;
+            Ok(Printed::report(reported))
         }
     }
 }

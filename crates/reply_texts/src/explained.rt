@@ -2,26 +2,26 @@
 
 use crate::cases::{NO_GAME, has_no_event};
 use crate::encodings::in_utf8;
-use audit_lines::push_last_line;
 use explain_lines::push_explanation;
 use game_case::Entry;
-use name_texts::Encoding;
+use gcg_names::Encoding;
 use repair_lines::push_likely;
 use repair_words::push_amount;
-use serve_answers::{ExplainedCase, Printed};
+use reply_answers::{ExplainedCase, Printed};
+use sheet_audit::push_last_line;
 use std::alloc::{AllocError, Global};
 
 /// Appends what is said of a record as a whole after its explanation: its likely repair; or if it has none, a bonus or a penalty that would explain
 /// its numbers, and who is ahead by the right ones.
 fn push_end(
-    told: &mut Vec<u8>,
+    reported: &mut Vec<u8>,
     explained: &ExplainedCase,
     entry: &Entry,
 ) -> Result<(), AllocError> {
-    push_likely(told, &entry.record, explained.likely.as_ref())?;
-    push_amount(told, &entry.record, explained.amount.as_ref())?;
+    push_likely(reported, &entry.record, explained.likely.as_ref())?;
+    push_amount(reported, &entry.record, explained.amount.as_ref())?;
     match &explained.wrong {
-        Some(audit) => push_last_line(told, audit),
+        Some(audit) => push_last_line(reported, audit),
         None => Ok(()),
     }
 }
@@ -29,18 +29,18 @@ fn push_end(
 /// What explains a case, or one of its lines. If the record states its encoding, names in it are UTF-8.
 fn text_of(alloc: Global, explained: &ExplainedCase) -> Result<Vec<u8>, AllocError> {
     let case = &explained.case;
-    let mut told = Vec::new(alloc);
+    let mut reported = Vec::new(alloc);
     push_explanation(
         alloc,
-        &mut told,
+        &mut reported,
         case,
         explained.line,
         explained.explanation.as_ref(),
     )?;
     if let Ok(entry) = &case.read {
-        push_end(&mut told, explained, entry)?;
+        push_end(&mut reported, explained, entry)?;
     }
-    in_utf8(alloc, told, Encoding::of(case.text.as_slice()))
+    in_utf8(alloc, reported, Encoding::of(case.text.as_slice()))
 }
 
 /// What explains a case, or one of its lines, in words.

@@ -2,24 +2,24 @@
 ghost use Rattle.std.specs.Prelude.{◌≡◌, is_some, IfOk};
 ghost use Rattle.std.specs.Option.{option_copied};
 ghost use Rattle.json_trees.specs.Trees.{view};
-ghost use Rattle.unread_lines.specs.Lines.{unread_of};
-ghost use Rattle.case_objects.specs.Cases.{case_object};
+ghost use Rattle.gcg_unread.specs.Lines.{unread_of};
+ghost use Rattle.explain_case_json.specs.Cases.{case_object};
 ghost use Rattle.reply_texts.specs.Bodies.{object_in, text_in};
-ghost use Rattle.reply_texts.specs.Objects.{annotated_object, has_sheet, paged_object, told_of, IsAnnotatedText};
+ghost use Rattle.reply_texts.specs.Objects.{annotated_object, has_sheet, paged_object, reported_of, IsAnnotatedText};
 
 use crate::bodies::Body;
 use crate::cases::{NO_GAME, has_event, has_no_event};
-use annotations::{AnnotatedSheet, annotated_text};
-use case_objects::case_tree;
-use explanations::Explanation;
+use explain_case_json::case_tree;
+use explain_events::Explanation;
 use game_case::{Case, case_line};
+use gcg_unread::unread_lines;
 use json_trees::Tree;
 use page_answers::{PageContents, PagedCase};
 use page_words::page_text;
 use repair_answers::Likely;
-use serve_answers::Printed;
+use reply_answers::Printed;
+use sheet_notes::{AnnotatedSheet, annotated_text};
 use std::alloc::{AllocError, Global};
-use unread_lines::unread_lines;
 
 /// The page of a case.
 fn page_of(alloc: Global, paged: &PagedCase) -> Result<Vec<u8>, AllocError> {
@@ -62,8 +62,8 @@ pub fn annotated_words(alloc: Global, sheet: &AnnotatedSheet) -> Result<Printed,
 }
 
 /// What explains the verdict on a case with a page, if the text is a record.
-fn told_of(contents: &Option<PageContents>) -> Option<&Explanation>
-    ensures { option_copied result ≡ told_of contents.now }
+fn reported_of(contents: &Option<PageContents>) -> Option<&Explanation>
+    ensures { option_copied result ≡ reported_of contents.now }
 {
     match contents {
         Some(contents) => contents.explanation.as_ref(),
@@ -75,14 +75,14 @@ fn told_of(contents: &Option<PageContents>) -> Option<&Explanation>
 fn explained_tree(
     alloc: Global,
     case: &Case,
-    told: Option<&Explanation>,
+    reported: Option<&Explanation>,
     likely: Option<&Likely>,
 ) -> Result<Tree, AllocError>
     ensures { IfOk result (λ tree. view tree
-        ≡ case_object case.now (option_copied told.entry) (option_copied likely.entry) (unread_of case.now.text.items)) }
+        ≡ case_object case.now (option_copied reported.entry) (option_copied likely.entry) (unread_of case.now.text.items)) }
 {
     let unread = unread_lines(alloc, case.text.as_slice())?;
-    case_tree(alloc, case, told, likely, unread.as_slice())
+    case_tree(alloc, case, reported, likely, unread.as_slice())
 }
 
 /// The page of a case, for a program; if there is none, what `explain` says of the case.
@@ -93,8 +93,8 @@ pub fn paged_body(alloc: Global, paged: &PagedCase) -> Result<Body, AllocError>
     if has_event(&paged.case) {
         return Ok(Body::Text(page_of(alloc, paged)?));
     }
-    let told = told_of(&paged.contents);
-    let object = explained_tree(alloc, &paged.case, told, paged.likely.as_ref())?;
+    let reported = reported_of(&paged.contents);
+    let object = explained_tree(alloc, &paged.case, reported, paged.likely.as_ref())?;
     Ok(Body::Object(object))
 }
 

@@ -2,8 +2,8 @@
 ghost use Rattle.std.specs.Prelude.{◌≡◌, Some, None, IfOk};
 ghost use Rattle.json_trees.specs.Texts.{json_line};
 ghost use Rattle.json_trees.specs.Trees.{view};
-ghost use Rattle.answer_json.specs.Refusals.{checked_object, decision_object};
-ghost use Rattle.case_objects.specs.Cases.{case_object};
+ghost use Rattle.json_base.specs.Refusals.{checked_object, decision_object};
+ghost use Rattle.explain_case_json.specs.Cases.{case_object};
 ghost use Rattle.reply_texts.specs.Bodies.{object_in, text_in};
 ghost use Rattle.reply_texts.specs.Objects.{boarded_of, is_done, judged_of, next_of, object_of, plays_of, ruled_of, tidied_object, tidied_text, IsInObject, IsShownAs, IsText};
 
@@ -14,14 +14,14 @@ use crate::drafted::{filled_body, next_of};
 use crate::made::{annotated_body, paged_body};
 use crate::repaired::repaired_body;
 use crate::ruled::ruled_of;
-use answer_json::{checked_tree, decision_tree};
-use call_stages::{Decision, Verdict};
-use case_objects::case_tree;
 use draft_answers::{DraftFault, DraftNext};
+use engine_stages::{Decision, Verdict};
+use explain_case_json::case_tree;
 use game_answers::FoundPlays;
 use game_json::{found_tree, judged_tree};
+use json_base::{checked_tree, decision_tree};
 use json_trees::{Tree, line_of};
-use serve_answers::{ExplainedCase, JudgedSheet, Printed, Reply, Ruled, ShownSheet};
+use reply_answers::{ExplainedCase, JudgedSheet, Printed, Reply, Ruled, ShownSheet};
 use sheet_json::board_tree;
 use std::alloc::{AllocError, Global};
 
@@ -57,10 +57,10 @@ fn explained_body(alloc: Global, explained: &ExplainedCase) -> Result<Body, Allo
         ≡ Some (case_object explained.now.case explained.now.explanation explained.now.likely explained.now.unread.items)) }
     ensures has_text { IfOk result (λ body. text_in body ≡ None) }
 {
-    let told = explained.explanation.as_ref();
+    let reported = explained.explanation.as_ref();
     let likely = explained.likely.as_ref();
     let unread = explained.unread.as_slice();
-    let object = case_tree(alloc, &explained.case, told, likely, unread)?;
+    let object = case_tree(alloc, &explained.case, reported, likely, unread)?;
     Ok(Body::Object(object))
 }
 

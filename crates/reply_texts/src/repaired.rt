@@ -8,17 +8,17 @@ ghost use Rattle.reply_texts.specs.Objects.{repairs_in, repairs_of, IsRepairedOf
 use crate::bodies::Body;
 use crate::cases::{NO_GAME, has_no_event, is_with_event};
 use crate::encodings::in_utf8;
-use answer_json::no_game_tree;
 use game_case::Entry;
+use gcg_names::Encoding;
+use gcg_unread::UnreadLine;
+use json_base::no_game_tree;
 use json_trees::Tree;
-use kept_sheets::sheet_to_keep;
-use name_texts::Encoding;
 use repair_answers::RepairAnswer;
+use repair_chosen::sheet_to_keep;
 use repair_json::{answer_tree, bad_tree};
 use repair_lines::{push_choice, push_repairs};
-use serve_answers::{Printed, RepairedCase};
+use reply_answers::{Printed, RepairedCase};
 use std::alloc::{AllocError, Global};
-use unread_lines::UnreadLine;
 
 /// What is said of a repaired sheet of a record without an event.
 const NOTHING: &[u8] = b"not written: there is nothing to repair\n";
@@ -26,12 +26,12 @@ const NOTHING: &[u8] = b"not written: there is nothing to repair\n";
 /// What repairs the record of a case, and whether the repaired sheet is kept. If the record states its encoding, names in it are UTF-8.
 fn text_of(alloc: Global, repaired: &RepairedCase, kept: bool) -> Result<Vec<u8>, AllocError> {
     let case = &repaired.case;
-    let mut told = Vec::new(alloc);
-    push_repairs(alloc, &mut told, case, &repaired.answer)?;
+    let mut reported = Vec::new(alloc);
+    push_repairs(alloc, &mut reported, case, &repaired.answer)?;
     if repaired.asked {
-        push_choice(&mut told, case, &repaired.answer, kept)?;
+        push_choice(&mut reported, case, &repaired.answer, kept)?;
     }
-    in_utf8(alloc, told, Encoding::of(case.text.as_slice()))
+    in_utf8(alloc, reported, Encoding::of(case.text.as_slice()))
 }
 
 /// The text of the repaired sheet, if it is requested, one repair is to be chosen and the text reads as the record with it.
@@ -50,11 +50,11 @@ fn repaired_of(alloc: Global, repaired: &RepairedCase) -> Result<Option<Vec<u8>>
 fn no_game(alloc: Global, asked: bool) -> Result<Printed, AllocError>
     ensures { IfOk result (λ printed. printed.kept ≡ None) }
 {
-    let mut told = Vec::from_slice(alloc, NO_GAME)?;
+    let mut reported = Vec::from_slice(alloc, NO_GAME)?;
     if asked {
-        told.extend_from_slice(NOTHING)?;
+        reported.extend_from_slice(NOTHING)?;
     }
-    Ok(Printed::report(told))
+    Ok(Printed::report(reported))
 }
 
 /// What repairs the record of a case, in words.

@@ -5,10 +5,10 @@ ghost use Rattle.reply_texts.specs.Objects.{ruled_of};
 ghost use Rattle.reply_texts.specs.Rulings.{ruling_line, bad_word_line, ruled_line};
 
 use json_trees::Tree;
-use serve_answers::{Printed, Ruled};
+use lex_rulings::AskedWord;
+use reply_answers::{Printed, Ruled};
 use sheet_json::{no_word_tree, ruling_tree};
 use std::alloc::{AllocError, Global};
-use word_rulings::AskedWord;
 
 /// The line that says that words are acceptable, or that they are not.
 #[tactic(auto, unfolding(crate::specs::Rulings::ruling_line))]

@@ -10,7 +10,7 @@ use crate::made::{annotated_words, paged_words};
 use crate::objects::in_object;
 use crate::repaired::repaired_words;
 use crate::ruled::ruled_words;
-use serve_answers::{Printed, Reply};
+use reply_answers::{Printed, Reply};
 use std::alloc::{AllocError, Global};
 
 /// What is written of a reply in words. A reply that the program gives only as an object is one.

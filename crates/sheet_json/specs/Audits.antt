@@ -2,7 +2,7 @@
 use Rattle.std.specs.Prelude.{ℕ, ℤ, List, [], ◌∷◌, codes, map, slice_get, Option, Some, None, option_map}
 use Rattle.json.specs.Json.{Json, null, string}
 use Rattle.json_trees.specs.Values.{Field, array_of, count, integer, object_of, or_null, text}
-use Rattle.game_sheets.specs.declared.standings.Standing.{Standing}
+use Rattle.game_corrections.specs.declared.standings.Standing.{Standing}
 use Rattle.game_case.specs.declared.findings.Finding.{Finding}
 use Rattle.game_case.specs.declared.findings.Finding.TheVariants as finding
 use Rattle.gcg_read.specs.declared.events.Event.{Event}
@@ -10,16 +10,16 @@ use Rattle.gcg_read.specs.declared.events.Seat.{Seat}
 use Rattle.gcg_read.specs.declared.records.Record.{Record}
 use Rattle.gcg_read.specs.Players.{player_of}
 use Rattle.repair_answers.specs.declared.sheet_amounts.SheetAmount.{SheetAmount}
-use Rattle.audit_lines.specs.declared.answers.AuditAnswer.{AuditAnswer}
-use Rattle.audit_lines.specs.declared.told.ToldNumber.{ToldNumber}
-use Rattle.audit_lines.specs.declared.told.ToldNumber.TheVariants as told
-use Rattle.unread_lines.specs.declared.lines.UnreadLine.{UnreadLine}
-use Rattle.answer_json.specs.Faults.{game_fault_object}
-use Rattle.answer_json.specs.Kinds.{kind_direction, kind_place, kind_symbols}
-use Rattle.answer_json.specs.Players.{players_value, standing_object}
-use Rattle.answer_json.specs.Values.{unread_value}
-use Rattle.answer_json.specs.Verdicts.{ending_word}
-use Rattle.answer_json.specs.Words.{kind_word, player_number}
+use Rattle.sheet_audit.specs.declared.answers.AuditAnswer.{AuditAnswer}
+use Rattle.sheet_audit.specs.declared.reported.ReportedNumber.{ReportedNumber}
+use Rattle.sheet_audit.specs.declared.reported.ReportedNumber.TheVariants as reported
+use Rattle.gcg_unread.specs.declared.lines.UnreadLine.{UnreadLine}
+use Rattle.json_base.specs.Faults.{game_fault_object}
+use Rattle.json_base.specs.Kinds.{kind_direction, kind_place, kind_symbols}
+use Rattle.json_base.specs.Players.{players_value, standing_object}
+use Rattle.json_base.specs.Values.{unread_value}
+use Rattle.json_base.specs.Verdicts.{ending_word}
+use Rattle.json_base.specs.Words.{kind_word, player_number}
 use Rattle.repair_json.specs.Changes.{single_object}
 
 -- ---- what is found of the corrected record
@@ -101,10 +101,10 @@ wrong_fields r what event player written sum right =
 abbrev pub wrong_of : Record → (what : List ℕ) → Option Event → Seat → (written : ℤ) → (sum right : Option ℤ) → Json
 wrong_of r what event player written sum right = object_of (wrong_fields r what event player written sum right)
 
-abbrev pub wrong_object : Record → ToldNumber → Json
-wrong_object r (told.Score place line player written right) = wrong_of r (codes "score") (slice_get r.events place) player written None (Some right)
-wrong_object r (told.Sum place line player written sum right) = wrong_of r (codes "sum") (slice_get r.events place) player written (Some sum) right
-wrong_object r (told.Total player written right) = wrong_of r (codes "last total") None player written None (Some right)
+abbrev pub wrong_object : Record → ReportedNumber → Json
+wrong_object r (reported.Score place line player written right) = wrong_of r (codes "score") (slice_get r.events place) player written None (Some right)
+wrong_object r (reported.Sum place line player written sum right) = wrong_of r (codes "sum") (slice_get r.events place) player written (Some sum) right
+wrong_object r (reported.Total player written right) = wrong_of r (codes "last total") None player written None (Some right)
 
 -- a bonus or a penalty that would explain the numbers
 abbrev pub amount_object : SheetAmount → Json

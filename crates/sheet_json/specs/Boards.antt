@@ -8,12 +8,12 @@ use Rattle.ref_tiles.specs.Kinds.{kind_at}
 use Rattle.ref_play.specs.declared.faults.PlayFault.{PlayFault}
 use Rattle.ref_play.specs.Faults.{name_of}
 use Rattle.gcg_read.specs.declared.players.Player.{Player}
-use Rattle.call_stages.specs.declared.verdicts.Verdict.TheVariants as verdict
+use Rattle.engine_stages.specs.declared.verdicts.Verdict.TheVariants as verdict
 use Rattle.game_answers.specs.declared.boards.ShownBoard.{ShownBoard}
-use Rattle.unread_lines.specs.declared.lines.UnreadLine.{UnreadLine}
-use Rattle.answer_json.specs.Faults.{bare_fault_object, tile_value}
-use Rattle.answer_json.specs.Values.{given_text, rack_value, unread_value}
-use Rattle.answer_json.specs.Verdicts.{verdict_object}
+use Rattle.gcg_unread.specs.declared.lines.UnreadLine.{UnreadLine}
+use Rattle.json_base.specs.Faults.{bare_fault_object, tile_value}
+use Rattle.json_base.specs.Values.{given_text, rack_value, unread_value}
+use Rattle.json_base.specs.Verdicts.{verdict_object}
 
 -- of a play that cannot be laid its fault, and the line of its event
 abbrev pub laid_fault : Option PlayFault → Json

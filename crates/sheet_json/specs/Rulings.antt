@@ -4,8 +4,8 @@ use Rattle.std.specs.List.{filter_map, range_with_len}
 use Rattle.std.specs.Option.{option_and_then}
 use Rattle.json.specs.Json.{Json, boolean, null, string}
 use Rattle.json_trees.specs.Values.{Field, array_of, object_of, text}
-use Rattle.word_rulings.specs.declared.asked.AskedWord.{AskedWord}
-use Rattle.word_rulings.specs.declared.rulings.Ruling.{Ruling}
+use Rattle.lex_rulings.specs.declared.asked.AskedWord.{AskedWord}
+use Rattle.lex_rulings.specs.declared.rulings.Ruling.{Ruling}
 
 -- a word, and whether it is in the list
 abbrev pub word_fields : AskedWord → (acceptable : Bool) → List Field

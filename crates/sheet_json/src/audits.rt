@@ -5,21 +5,21 @@ ghost use Rattle.json_trees.specs.Trees.{fields_view, view};
 ghost use Rattle.json_trees.specs.Values.{array_of, or_null};
 ghost use Rattle.sheet_json.specs.Audits.{ahead_value, amount_object, audit_fields, audit_object, direction_value, finding_ending, finding_fault, finding_line, finding_word, kind_value, line_value, place_value, symbols_value, wrong_object, wrong_of};
 
-use answer_json::{
+use game_case::Finding;
+use game_corrections::Standing;
+use gcg_read::{Event, Record, Seat};
+use gcg_unread::UnreadLine;
+use json_base::{
     ending_name, game_fault_tree, item_at, kind_direction_tree, kind_name, kind_place_tree,
     kind_symbols_tree, number_of, players_array, standing_tree, unread_array,
 };
-use audit_lines::{AuditAnswer, ToldNumber};
-use game_case::Finding;
-use game_sheets::Standing;
-use gcg_read::{Event, Record, Seat};
 use json_trees::{
     Tree, array, count_tree, integer_or_null, integer_tree, name_tree, null_tree, object, text_tree,
 };
 use repair_answers::SheetAmount;
 use repair_json::single_tree;
+use sheet_audit::{AuditAnswer, ReportedNumber};
 use std::alloc::{AllocError, Global};
-use unread_lines::UnreadLine;
 
 /// What is found of the corrected record, by its name.
 fn finding_name(finding: &Finding) -> &'static str
@@ -218,18 +218,18 @@ fn total_tree(
 }
 
 /// A wrong number.
-fn wrong_tree(alloc: Global, game: &Record, number: &ToldNumber) -> Result<Tree, AllocError>
+fn wrong_tree(alloc: Global, game: &Record, number: &ReportedNumber) -> Result<Tree, AllocError>
     ensures { IfOk result (λ tree. view tree ≡ wrong_object game.now number.now) }
 {
     match number {
-        ToldNumber::Score {
+        ReportedNumber::Score {
             place,
             player,
             written,
             right,
             ..
         } => score_tree(alloc, game, *place, *player, *written, *right),
-        ToldNumber::Sum {
+        ReportedNumber::Sum {
             place,
             player,
             written,
@@ -237,7 +237,7 @@ fn wrong_tree(alloc: Global, game: &Record, number: &ToldNumber) -> Result<Tree,
             right,
             ..
         } => sum_tree(alloc, game, *place, *player, *written, *sum, *right),
-        ToldNumber::Total {
+        ReportedNumber::Total {
             player,
             written,
             right,
@@ -246,7 +246,7 @@ fn wrong_tree(alloc: Global, game: &Record, number: &ToldNumber) -> Result<Tree,
 }
 
 /// The wrong numbers.
-fn wrong_array(alloc: Global, game: &Record, numbers: &[ToldNumber]) -> Result<Tree, AllocError>
+fn wrong_array(alloc: Global, game: &Record, numbers: &[ReportedNumber]) -> Result<Tree, AllocError>
     ensures { IfOk result (λ tree. view tree ≡ array_of (map (wrong_object game.now) numbers.now)) }
 {
     let mut trees = Vec::new(alloc);

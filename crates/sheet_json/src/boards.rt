@@ -4,12 +4,13 @@ ghost use Rattle.json_trees.specs.Trees.{view};
 ghost use Rattle.json_trees.specs.Values.{array_of, object_of};
 ghost use Rattle.sheet_json.specs.Boards.{board_fields, board_object, kind_object, kinds_to, laid_fault, laid_line, off_at, off_object, player_object, row_value};
 
-use answer_json::{
-    bare_fault_tree, given_tree, item_at, rack_tree, tile_tree, unread_array, verdict_tree,
-};
-use call_stages::Verdict;
+use engine_stages::Verdict;
 use game_answers::{RowMarks, ShownBoard};
 use gcg_read::Player;
+use gcg_unread::UnreadLine;
+use json_base::{
+    bare_fault_tree, given_tree, item_at, rack_tree, tile_tree, unread_array, verdict_tree,
+};
 use json_trees::{
     Tree, array, count_or_null, integer_tree, name_tree, null_tree, object, push_if, size_tree,
     text_tree,
@@ -17,7 +18,6 @@ use json_trees::{
 use ref_play::PlayFault;
 use ref_tiles::{KINDS, Kind};
 use std::alloc::{AllocError, Global};
-use unread_lines::UnreadLine;
 
 /// The fault of a play that cannot be laid; null if every play can.
 fn laid_fault(alloc: Global, fault: Option<PlayFault>) -> Result<Tree, AllocError>

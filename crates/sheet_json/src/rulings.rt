@@ -5,10 +5,10 @@ ghost use Rattle.json_trees.specs.Trees.{view};
 ghost use Rattle.json_trees.specs.Values.{array_of};
 ghost use Rattle.sheet_json.specs.Rulings.{no_word_object, ruling_name, ruling_object, word_at, word_object, word_with};
 
-use answer_json::item_at;
+use json_base::item_at;
 use json_trees::{Tree, array, bool_tree, name_tree, null_tree, object, push_if, text_tree};
+use lex_rulings::{AskedWord, Ruling};
 use std::alloc::{AllocError, Global};
-use word_rulings::{AskedWord, Ruling};
 
 /// A word, and whether it is in the list.
 fn word_tree(alloc: Global, word: &AskedWord, acceptable: bool) -> Result<Tree, AllocError>

@@ -1,14 +1,14 @@
 //! Calls of the engine over bytes.
-ghost use Rattle.devices.specs.Devices.{HasRoom};
+ghost use Rattle.io_devices.specs.Devices.{HasRoom};
 
 use crate::feeds::{Feed, NEVER};
-use call_stages::{RunFault, Verdict};
-use devices::Output;
 use engine::{
     run, run_board, run_board_ruled, run_build, run_check, run_convert, run_ruled, run_settled,
     run_settled_ruled, run_tidy, run_top, run_top_before, run_top_before_ruled, run_top_ruled,
 };
+use engine_stages::{RunFault, Verdict};
 use game_report::MOST_PLAYS;
+use io_devices::Output;
 use lex_file::Format;
 use ref_tiles::{Rules, english_rules};
 use std::alloc::Global;

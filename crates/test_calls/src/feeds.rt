@@ -1,8 +1,8 @@
 //! Inputs over memory.
-ghost use Rattle.devices.specs.Devices.{Device};
+ghost use Rattle.io_devices.specs.Devices.{Device};
 ghost use Rattle.std.specs.Prelude.{◌≤◌, None};
 
-use devices::{DeviceFailed, Input};
+use io_devices::{DeviceFailed, Input};
 
 /// The number of a read or a write that never comes.
 pub const NEVER: usize = usize::MAX;

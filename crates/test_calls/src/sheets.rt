@@ -1,8 +1,8 @@
 //! Outputs over memory.
-ghost use Rattle.devices.specs.Devices.{Device};
+ghost use Rattle.io_devices.specs.Devices.{Device};
 ghost use Rattle.std.specs.Prelude.{◌≡◌, ◌≤◌, None};
 
-use devices::{DeviceFailed, Output};
+use io_devices::{DeviceFailed, Output};
 
 /// What happens to the write with a certain number, counted from zero.
 #[derive(Clone, Copy, Debug, PartialEq, Eq)]

@@ -8,10 +8,10 @@ pub fn has_parts(text: &[u8], parts: &[&str]) -> bool {
         if !rest.starts_with(want) {
             return false;
         }
-        let Some(behind) = rest.get(want.len()..) else {
+        let Some(following) = rest.get(want.len()..) else {
             return false;
         };
-        rest = behind;
+        rest = following;
     }
     rest.is_empty()
 }

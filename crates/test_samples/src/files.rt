@@ -59,7 +59,7 @@ pub fn file_of(alloc: Global, words: &[u32]) -> Result<Vec<u8>, AllocError> {
 /// A file of 25 nodes with the arcs A and B. Those of the first node accept and have no target; those of each further
 /// node do not accept, and their target is the node before. So a great many strings are spelt, and none of them has a
 /// mark.
-pub fn many_walks(alloc: Global) -> Result<Vec<u8>, AllocError> {
+pub fn count_walks(alloc: Global) -> Result<Vec<u8>, AllocError> {
     let mut words: [u32; 54] = [0; 54];
     words[0] = GAD1;
     words[1] = 50;

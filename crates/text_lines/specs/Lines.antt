@@ -27,10 +27,10 @@ lines_of text = lines_in (without_mark text)
 -- ---- what the reader cuts off
 
 -- the lines of what follows a line
-abbrev pub lines_behind : Option (Bor (List ℕ)) → List (List ℕ)
-lines_behind None = []
-lines_behind (Some after) = lines_in after.now
+abbrev pub lines_after : Option (Bor (List ℕ)) → List (List ℕ)
+lines_after None = []
+lines_after (Some after) = lines_in after.now
 
 -- the lines that are still to come
-abbrev pub lines_left : Lines → List (List ℕ)
-lines_left lines = lines_behind lines.left
+abbrev pub lines_remaining : Lines → List (List ℕ)
+lines_remaining lines = lines_after lines.unread

@@ -2,7 +2,7 @@
 ghost use Rattle.std.specs.Prelude.{◌≡◌, ◌<◌, ◌≤◌, ◌+◌, ◌∷◌, IfSome, length};
 ghost use Rattle.std.specs.Iterator.{YieldsFirstRef, item_count};
 ghost use Rattle.std.specs.List.{position};
-ghost use Rattle.text_lines.specs.Lines.{without_mark, without_return, is_feed, lines_in, lines_behind, lines_left};
+ghost use Rattle.text_lines.specs.Lines.{without_mark, without_return, is_feed, lines_in, lines_after, lines_remaining};
 
 use bstr::ByteSlice;
 
@@ -46,7 +46,7 @@ fn find_feed(text: &[u8]) -> Option<usize>
 /// dropped.
 #[tactic(auto, using(crate::proofs::LineCuts::lines_end))]
 pub fn cut_line(text: &[u8]) -> Cut<'_>
-    ensures lines { lines_in text.now ≡ result.line.now ∷ lines_behind result.after }
+    ensures lines { lines_in text.now ≡ result.line.now ∷ lines_after result.after }
     ensures shorter { IfSome result.after (λ after. length after.now < length text.now) }
 {
     match find_feed(text) {
@@ -64,30 +64,30 @@ pub fn cut_line(text: &[u8]) -> Cut<'_>
 /// The lines of a text, one after another.
 #[derive(Drop)]
 pub struct Lines<'a> {
-    left: Option<&'a [u8]>,
+    unread: Option<&'a [u8]>,
 }
 
 impl<'a> Lines<'a> {
     /// All lines of a text.
     #[tactic(auto, using(crate::proofs::LineCuts::few_lines))]
     pub fn of(text: &'a [u8]) -> Lines<'a>
-        ensures lines { lines_left result ≡ lines_in text.now }
+        ensures lines { lines_remaining result ≡ lines_in text.now }
         ensures few { length (lines_in text.now) ≤ length text.now + 1 }
     {
-        Lines { left: Some(text) }
+        Lines { unread: Some(text) }
     }
 }
 
 impl<'a> Iterator for Lines<'a> {
     type Item = &'a [u8];
 
-    ghost next_gives = { YieldsFirstRef lines_left };
+    ghost next_gives = { YieldsFirstRef lines_remaining };
 
-    ghost remaining = { item_count lines_left };
+    ghost remaining = { item_count lines_remaining };
 
     fn next(&mut self) -> Option<&'a [u8]> {
-        let cut = cut_line(self.left?);
-        self.left = cut.after;
+        let cut = cut_line(self.unread?);
+        self.unread = cut.after;
         Some(cut.line)
     }
 }

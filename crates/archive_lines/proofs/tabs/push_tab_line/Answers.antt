@@ -1,4 +1,4 @@
-use Rattle.archive_lines.specs.Tabs.{verdict_told, record_told, rest_told, tab_line}
+use Rattle.archive_lines.specs.Tabs.{verdict_reported, record_reported, rest_reported, tab_line}
 use Rattle.archive_lines.proofs.Joined.{line_is}
 use Rattle.archive_lines.proofs.tabs.push_tab_line.Goals as goal
 
@@ -14,4 +14,4 @@ returns c =
       c.in_ok-push_escaped.ensures,
       c.as_bytes.ensures.value,
     )
-    (line_is c.args.line.now.items f.name.now (verdict_told f) (record_told f) (rest_told f.page f.likely f.unread_lines))
+    (line_is c.args.line.now.items f.name.now (verdict_reported f) (record_reported f) (rest_reported f.page f.likely f.unread_lines))

@@ -5,9 +5,9 @@ use Rattle.deal_completion.proofs.picking.first_spare.Goals as goal
 pub returns-then-times-kind-clause-first : goal.returns-then-times-kind-clause-first
 returns-then-times-kind-clause-first c =
     let same = ap (λ (xs : List ℕ). get_or xs c.loop-kind.kind 0) c.numbers-numbers.ensures.numbers in
-    below_here (λ k. get_or c.args.times.now k 0) (λ k. get_or c.args.left.now k 0) c.loop-kind.kind (omega arith) (omega arith) ∙ c.loop-kind.invariant
+    below_here (λ k. get_or c.args.times.now k 0) (λ k. get_or c.args.remaining.now k 0) c.loop-kind.kind (omega arith) (omega arith) ∙ c.loop-kind.invariant
 
 pub loop-kind-preserved : goal.loop-kind-preserved
 loop-kind-preserved c =
     let same = ap (λ (xs : List ℕ). get_or xs c.loop-kind.kind 0) c.numbers-numbers.ensures.numbers in
-    below_past (λ k. get_or c.args.times.now k 0) (λ k. get_or c.args.left.now k 0) c.loop-kind.kind (omega arith) (omega arith) ∙ c.loop-kind.invariant
+    below_past (λ k. get_or c.args.times.now k 0) (λ k. get_or c.args.remaining.now k 0) c.loop-kind.kind (omega arith) (omega arith) ∙ c.loop-kind.invariant

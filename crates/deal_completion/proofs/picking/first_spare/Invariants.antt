@@ -6,4 +6,4 @@ use Rattle.deal_completion.proofs.picking.first_spare.Given as goal
 
 abbrev pub invariant-loop-kind : goal.invariant-loop-kind
 invariant-loop-kind l =
-    find (λ k. ltb (get_or l.times k 0) (get_or l.left k 0)) (range_with_len l.kind (27 - l.kind)) ≡ find (λ k. ltb (get_or l.times k 0) (get_or l.left k 0)) kinds
+    find (λ k. ltb (get_or l.times k 0) (get_or l.remaining k 0)) (range_with_len l.kind (27 - l.kind)) ≡ find (λ k. ltb (get_or l.times k 0) (get_or l.remaining k 0)) kinds

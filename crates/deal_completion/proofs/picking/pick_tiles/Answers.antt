@@ -27,4 +27,4 @@ returns c =
     ∙ ap (λ (n : ℕ). pick_spare (times_of reserved) n listed) more
     ∙ spare_is_more reserved (number - sum listed.taken) listed
     ∙ ap (λ (p : Pick). pick_then reserved number p)
-    (c.take_listed.ensures.taken ∙ ap (λ (taken : List ℕ). pick_listed c.args.list.now number (record { taken = taken; left = c.args.tiles.now })) c.new.ensures)
+    (c.take_listed.ensures.taken ∙ ap (λ (taken : List ℕ). pick_listed c.args.list.now number (record { taken = taken; remaining = c.args.tiles.now })) c.new.ensures)

@@ -1,6 +1,6 @@
 use Rattle.std.proofs.Common.{Vec, Global, false, ◌≡◌, ℕ, ◌+◌, ◌++◌, List, Some, None, drop, length, sym, ap, ◌∙◌, arith}
 use Rattle.deal_steps.specs.Piles.{without, greater}
-use Rattle.deal_steps.specs.Steps.{needed, left_in, ends_epoch}
+use Rattle.deal_steps.specs.Steps.{needed, remaining_in, ends_epoch}
 use Rattle.deal_steps.proofs.PileLaws.{length-without}
 use Rattle.deal_completion.specs.Completion.{lacking}
 use Rattle.deal_completion.proofs.WantLaws.{wanted_by, want_list_by, want_at, want_past, asked_more}
@@ -30,12 +30,12 @@ loop-step-preserved c =
           let goes_on : ends_epoch seat s ≡ false = sym w.ends_epoch.ensures ∙ w.if-ends_epoch.false in
           let list_is : c.match-needed.list.items ≡ c.loop-step.list.items ++ lacking asked rest =
           ap (λ (v : Vec ℕ Global). v.items) w.list-is ∙ w.in_ok-push_lacking.ensures in
-          let rest_is : c.match-needed.rest ≡ without (greater rest asked) (left_in seat s) =
-          w.rest-is ∙ w.without-rest.ensures ∙ ap (λ (left : List ℕ). without w.greater.result left) w.left_in.ensures
-          ∙ ap (λ (more : List ℕ). without more (left_in seat s)) w.greater.ensures in
+          let rest_is : c.match-needed.rest ≡ without (greater rest asked) (remaining_in seat s) =
+          w.rest-is ∙ w.without-rest.ensures ∙ ap (λ (remaining : List ℕ). without w.greater.result remaining) w.remaining_in.ensures
+          ∙ ap (λ (more : List ℕ). without more (remaining_in seat s)) w.greater.ensures in
           record {
             so_far = asked_more seat s (drop (i + 1) steps) asked rest c.match-needed.rest c.loop-step.list.items c.match-needed.list.items _ asks goes_on list_is rest_is here;
-            long = ap length rest_is ∙ length-without (greater rest asked) (left_in seat s);
+            long = ap length rest_is ∙ length-without (greater rest asked) (remaining_in seat s);
           }
       | in_default w ↦
           let asks : needed seat s ≡ None = sym c.needed.ensures ∙ w.in_default.is in

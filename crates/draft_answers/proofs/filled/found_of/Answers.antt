@@ -30,4 +30,4 @@ returns c =
     let few = c.if-text-gt-MAX_BYTES.false in
     let short : length slice ≤ most_bytes = omega (arith, few) in
     if_answered c.args.rules.now (list_in c.args.pair.now) text _ c.args.sheet.text.items slice c.has_missing-lacking.result c.in_ok-answer.field-0 c.in-Ok.answer c.as_slice-text.ensures.value short
-    c.in-Ok.is c.in_ok-answer.ensures (c.has_missing-lacking.ensures ∙ ap has_missing c.as_slice.ensures.value) c.in_ok-told.ensures drafted
+    c.in-Ok.is c.in_ok-answer.ensures (c.has_missing-lacking.ensures ∙ ap has_missing c.as_slice.ensures.value) c.in_ok-reported.ensures drafted

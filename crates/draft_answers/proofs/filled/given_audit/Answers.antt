@@ -1,5 +1,5 @@
 use Rattle.lex_check.specs.Pairs.{list_in}
-use Rattle.audit_lines.specs.Answers.{IsAuditAnswerOf}
+use Rattle.sheet_audit.specs.Answers.{IsAuditAnswerOf}
 use Rattle.draft_answers.proofs.Reading.{means_read}
 use Rattle.draft_answers.proofs.filled.given_audit.Goals as goal
 

@@ -1,7 +1,7 @@
 use Rattle.std.proofs.Common.{◌≡◌, List, ◌+◌, ◌-◌, ◌<◌, ◌∙◌, Some, length, slice_get, refl, sym, ap, arith}
 use Rattle.std.proofs.lemmas.Option.{slice_get_read}
 use Rattle.game_turns.specs.Machines.{state_of}
-use Rattle.game_rows.specs.declared.rows.Row.{Row}
+use Rattle.game_walk.specs.declared.rows.Row.{Row}
 use Rattle.draft_answers.proofs.Movers.{after_rows}
 use Rattle.draft_answers.proofs.next.end_of.Goals as goal
 
@@ -16,4 +16,4 @@ returns c =
     let there : slice_get c.args.walk.now.rows.items last ≡ Some row =
     ap (λ (rs : List Row). slice_get rs last) (sym c.as_slice-rows.ensures.value) ∙ slice_get_read rows (length rows) last row refl within c.index-rows-many.is in
     let next : last + 1 ≡ length c.args.walk.now.rows.items = omega arith in
-    ap (λ (r : Row). state_of r.behind) (sym c.index-rows-many.is) ∙ after_rows rules list written right c.args.walk.now last row is there next
+    ap (λ (r : Row). state_of r.following) (sym c.index-rows-many.is) ∙ after_rows rules list written right c.args.walk.now last row is there next

@@ -2,7 +2,7 @@ use Rattle.std.proofs.Common.{ℕ, List, length, refl, sym, subst}
 use Rattle.gcg_read.specs.declared.events.Event.{Event}
 use Rattle.lex_check.specs.Pairs.{list_in}
 use Rattle.game_turns.specs.Tallies.{tally_at}
-use Rattle.game_rows.specs.Walks.{IsWalk}
+use Rattle.game_walk.specs.Walks.{IsWalk}
 use Rattle.draft_answers.specs.Nexts.{IsNextOf}
 use Rattle.draft_answers.proofs.Movers.{is_next}
 use Rattle.draft_answers.proofs.next.next_in.Goals as goal

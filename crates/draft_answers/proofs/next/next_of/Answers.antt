@@ -1,7 +1,7 @@
 use Rattle.std.proofs.Common.{List, length, ap, ◌∙◌}
 use Rattle.game_turns.specs.Machines.{state_of}
 use Rattle.game_turns.specs.Tallies.{tally_at}
-use Rattle.game_rows.specs.declared.rows.Row.{Row}
+use Rattle.game_walk.specs.declared.rows.Row.{Row}
 use Rattle.draft_answers.proofs.Movers.{next_by}
 use Rattle.draft_answers.proofs.next.next_of.Goals as goal
 

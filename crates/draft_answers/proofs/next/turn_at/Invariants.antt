@@ -2,7 +2,7 @@ use Rattle.std.proofs.Common.{◌≡◌, ◌≤◌, ℕ, List}
 use Rattle.ref_tiles.specs.declared.rulebook.Rules.{Rules}
 use Rattle.gcg_read.specs.declared.events.Event.{Event}
 use Rattle.game_turns.specs.Tallies.{tally_at}
-use Rattle.game_rows.specs.Walks.{IsWalk}
+use Rattle.game_walk.specs.Walks.{IsWalk}
 use Rattle.draft_answers.proofs.next.turn_at.Given as goal
 
 abbrev pub invariant-loop-end : goal.invariant-loop-end

@@ -1,4 +1,4 @@
-use Rattle.call_stages.proofs.Runs.{runs}
+use Rattle.engine_stages.proofs.Runs.{runs}
 use Rattle.engine.proofs.boards.run_board.Goals as goal
 
 pub returns : goal.returns

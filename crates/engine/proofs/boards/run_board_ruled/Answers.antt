@@ -1,9 +1,9 @@
 use Rattle.std.proofs.Common.{refl}
 use Rattle.engine.specs.Boards.{IsBoarded}
-use Rattle.call_stages.specs.Reading.{ByParts}
-use Rattle.call_stages.proofs.Runs.{runs, runs_unread}
+use Rattle.engine_stages.specs.Reading.{ByParts}
+use Rattle.engine_stages.proofs.Runs.{runs, runs_unread}
 use Rattle.engine.proofs.ShownBoards.{board_spares}
-use Rattle.call_stages.proofs.Stages.{rules_texts, text_bad, rules_good}
+use Rattle.engine_stages.proofs.Stages.{rules_texts, text_bad, rules_good}
 use Rattle.engine.proofs.boards.run_board_ruled.Goals as goal
 
 pub returns-in-Ok-Err : goal.returns-in-Ok-Err

@@ -1,6 +1,6 @@
 use Rattle.engine.specs.Building.{IsBuiltBy}
-use Rattle.call_stages.specs.Reading.{ReadsNoMore}
-use Rattle.call_stages.proofs.Stages.{lists, text_bad, text_last}
+use Rattle.engine_stages.specs.Reading.{ReadsNoMore}
+use Rattle.engine_stages.proofs.Stages.{lists, text_bad, text_last}
 use Rattle.engine.proofs.building.decide_lexicon.Goals as goal
 
 pub returns-in-Err : goal.returns-in-Err

@@ -1,5 +1,5 @@
 use Rattle.engine.specs.Converting.{IsConvertedBy}
-use Rattle.call_stages.proofs.Stages.{file_last}
+use Rattle.engine_stages.proofs.Stages.{file_last}
 use Rattle.engine.proofs.converting.decide_conversion.Goals as goal
 
 pub returns : goal.returns

@@ -1,4 +1,4 @@
-use Rattle.call_stages.proofs.Runs.{runs}
+use Rattle.engine_stages.proofs.Runs.{runs}
 use Rattle.engine.proofs.tidying.run_tidy.Goals as goal
 
 pub returns : goal.returns

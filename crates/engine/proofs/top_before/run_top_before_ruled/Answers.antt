@@ -1,6 +1,6 @@
 use Rattle.std.proofs.Common.{refl}
 use Rattle.std.specs.Option.{option_copied}
-use Rattle.call_stages.specs.Reading.{ReadsRules}
+use Rattle.engine_stages.specs.Reading.{ReadsRules}
 use Rattle.engine.specs.TopBefore.{given_rack, IsToppedBeforeBy}
 use Rattle.engine.proofs.Toppings.{no_rack, runs_without, runs_as_asked}
 use Rattle.engine.proofs.top_before.run_top_before_ruled.Goals as goal

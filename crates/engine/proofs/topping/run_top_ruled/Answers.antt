@@ -1,6 +1,6 @@
 use Rattle.std.proofs.Common.{refl, sym, ◌∙◌}
 use Rattle.gcg_read.specs.Racks.{rack_of}
-use Rattle.call_stages.specs.Reading.{ReadsRules}
+use Rattle.engine_stages.specs.Reading.{ReadsRules}
 use Rattle.engine.specs.Topping.{IsToppedBy}
 use Rattle.engine.proofs.Toppings.{no_rack, runs_without, runs_by_rack}
 use Rattle.engine.proofs.topping.run_top_ruled.Goals as goal

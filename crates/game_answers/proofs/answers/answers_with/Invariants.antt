@@ -1,8 +1,8 @@
 use Rattle.std.proofs.Common.{◌≡◌, length}
 use Rattle.game_turns.specs.Passing.{rules_in, record_in}
 use Rattle.lex_check.specs.Pairs.{list_in}
-use Rattle.known_bests.specs.Besides.{IsBeside}
-use Rattle.known_bests.specs.Known.{AreKnown}
+use Rattle.game_known.specs.Besides.{IsBeside}
+use Rattle.game_known.specs.Known.{AreKnown}
 use Rattle.game_answers.specs.Answers.{AreAnswersTo}
 use Rattle.game_answers.specs.Going.{HasTaken}
 use Rattle.game_answers.proofs.answers.answers_with.Given as goal

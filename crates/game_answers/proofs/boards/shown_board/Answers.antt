@@ -1,5 +1,5 @@
 use Rattle.gcg_read.specs.Records.{most_bytes}
-use Rattle.call_stages.proofs.Readings.{taken}
+use Rattle.engine_stages.proofs.Readings.{taken}
 use Rattle.game_answers.specs.Boards.{IsBoardOf}
 use Rattle.game_answers.proofs.boards.shown_board.Goals as goal
 

@@ -1,5 +1,5 @@
 use Rattle.std.proofs.Common.{subst}
-use Rattle.call_stages.specs.Stages.{IsRecordOf}
+use Rattle.engine_stages.specs.Stages.{IsRecordOf}
 use Rattle.game_answers.proofs.games.judged_from.Goals as goal
 
 pub returns-clause-judged : goal.returns-clause-judged

@@ -11,5 +11,5 @@ returns c =
     let n = c.args.number in
     let plays = c.args.plays.now in
     IfOk-weaker c.scored_plays.result (λ kept. ArePlaysOn board (map seen_pair c.first_of.result.now) kept.items) (λ kept. ArePlaysOn board (take n (map seen_pair plays)) kept.items)
-    (λ kept told. told ∙ ap (λ front. map (play_on board) (map seen_pair front)) c.first_of.ensures ∙ ap (map (play_on board)) (sym (take-map seen_pair n plays)))
+    (λ kept reported. reported ∙ ap (λ front. map (play_on board) (map seen_pair front)) c.first_of.ensures ∙ ap (map (play_on board)) (sym (take-map seen_pair n plays)))
     c.scored_plays.ensures

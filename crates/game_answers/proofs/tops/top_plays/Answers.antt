@@ -1,6 +1,6 @@
 use Rattle.gcg_read.specs.Records.{most_bytes}
 use Rattle.lex_check.specs.Pairs.{list_in}
-use Rattle.call_stages.proofs.Readings.{taken}
+use Rattle.engine_stages.proofs.Readings.{taken}
 use Rattle.game_answers.specs.Tops.{AreTopPlaysOf}
 use Rattle.game_answers.proofs.tops.top_plays.Goals as goal
 

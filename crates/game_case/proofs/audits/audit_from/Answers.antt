@@ -1,6 +1,6 @@
 use Rattle.std.proofs.Common.{subst, ap, Ok}
 use Rattle.lex_check.specs.Pairs.{list_in}
-use Rattle.call_stages.specs.Stages.{IsRecordOf}
+use Rattle.engine_stages.specs.Stages.{IsRecordOf}
 use Rattle.game_case.proofs.AuditedRecords.{audit_of}
 use Rattle.game_case.proofs.audits.audit_from.Goals as goal
 

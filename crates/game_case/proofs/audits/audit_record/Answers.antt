@@ -1,16 +1,16 @@
 use Rattle.std.proofs.Common.{sym, subst, ◌∙◌}
 use Rattle.lex_check.specs.Pairs.{list_in}
-use Rattle.game_rows.specs.Refusals.{IsToldRefusal}
-use Rattle.game_rows.specs.Walks.{IsWalk}
-use Rattle.game_rows.proofs.WalkLaws.{refusal_right, through_unrefused}
+use Rattle.game_walk.specs.Refusals.{IsReportedRefusal}
+use Rattle.game_walk.specs.Walks.{IsWalk}
+use Rattle.game_walk.proofs.WalkLaws.{refusal_right, through_unrefused}
 use Rattle.game_case.proofs.audits.audit_record.Goals as goal
 
-pub find-requires-clause-told : goal.find-requires-clause-told
-find-requires-clause-told c =
+pub find-requires-clause-reported : goal.find-requires-clause-reported
+find-requires-clause-reported c =
     let rules = c.args.rules.now in
     let right = c.audit.new.events in
     let walk = c.in_ok-audited.audited.walk in
-    subst (IsToldRefusal rules (list_in c.args.pair.now) right) (sym c.refused_for_good-refused.ensures)
+    subst (IsReportedRefusal rules (list_in c.args.pair.now) right) (sym c.refused_for_good-refused.ensures)
     (refusal_right rules (list_in c.args.pair.now) c.args.game.events right walk
     (subst (λ l. IsWalk rules l c.args.game.events right walk) c.list.ensures.list c.in_ok-audited.ensures.walk))
 

@@ -2,7 +2,7 @@ use Rattle.std.proofs.Common.{refl}
 use Rattle.gcg_read.specs.Records.{most_bytes}
 use Rattle.lex_check.specs.Pairs.{list_in}
 use Rattle.game_case.specs.Auditing.{IsAuditOf}
-use Rattle.call_stages.proofs.Readings.{taken}
+use Rattle.engine_stages.proofs.Readings.{taken}
 use Rattle.game_case.proofs.audits.audit_sheet.Goals as goal
 
 pub returns : goal.returns

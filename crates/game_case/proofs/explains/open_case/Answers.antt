@@ -2,7 +2,7 @@ use Rattle.std.proofs.Common.{ap, sym, ◌∙◌}
 use Rattle.gcg_read.specs.Records.{most_bytes}
 use Rattle.lex_check.specs.Pairs.{list_in}
 use Rattle.game_case.specs.Explaining.{IsCaseOf}
-use Rattle.call_stages.proofs.Readings.{taken}
+use Rattle.engine_stages.proofs.Readings.{taken}
 use Rattle.game_case.proofs.WalkedRecords.{case_is}
 use Rattle.game_case.proofs.explains.open_case.Goals as goal
 

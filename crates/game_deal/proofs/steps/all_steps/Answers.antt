@@ -11,7 +11,7 @@ loop-place-preserved c =
     let steps = steps_of passed.rules.now passed.record.now.events in
     let more = steps_more steps c.loop-place.place c.take_step-step.result c.take_step-step.ensures.step in
     let pushed = c.in_ok-append.ensures in
-    record { before = c.take_step-step.ensures.behind; steps = cc }
+    record { before = c.take_step-step.ensures.following; steps = cc }
 
 pub returns : goal.returns
 returns c =

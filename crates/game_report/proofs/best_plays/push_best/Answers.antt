@@ -9,9 +9,9 @@ pub returns-then-not-is_judged-clause-best : goal.returns-then-not-is_judged-cla
 returns-then-not-is_judged-clause-best c =
     let silent : is_judged (state_of c.args.machine.now).out c.args.event.now.kind ≡ false = search rules in
     record {
-      told = [];
-      is_told = record { judged = λ is. absurd (false≢true (sym silent ∙ is)); silent = λ none. refl };
-      behind = sym (append-nil c.args.text.now.items);
+      reported = [];
+      is_reported = record { judged = λ is. absurd (false≢true (sym silent ∙ is)); silent = λ none. refl };
+      following = sym (append-nil c.args.text.now.items);
     }
 
 pub returns-in-Some-clause-best : goal.returns-in-Some-clause-best

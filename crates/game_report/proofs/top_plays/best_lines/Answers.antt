@@ -2,8 +2,8 @@ use Rattle.std.proofs.lemmas.Result.{IfOk-weaker}
 use Rattle.std.proofs.Common.{◌≡◌, ◌≤◌, map, take, arith}
 use Rattle.gen_sinks.specs.Sinks.{seen_pair}
 use Rattle.lex_check.specs.Pairs.{list_in}
-use Rattle.game_report.specs.TopPlays.{top_text, TellsFirst}
-use Rattle.game_report.proofs.Fronts.{front_told, legal_plays}
+use Rattle.game_report.specs.TopPlays.{top_text, ReportsFirst}
+use Rattle.game_report.proofs.Fronts.{front_reported, legal_plays}
 use Rattle.game_report.proofs.top_plays.best_lines.Goals as goal
 
 pub front_lines-requires : goal.front_lines-requires
@@ -19,8 +19,8 @@ returns-then-number-le-FEW c =
     let board = c.args.board.now in
     let rack = c.args.rack.now in
     let few : n ≤ 10 = omega arith in
-    IfOk-weaker c.front_lines.result (λ text. text.items ≡ top_text board (take n (map seen_pair c.items.result.now))) (λ text. TellsFirst n rules list board rack text.items)
-    (λ text. front_told 10 n rules list board rack (map seen_pair c.top_many-few.result.kept.items) (map seen_pair c.items.result.now) text.items few c.top_many-few.ensures.first c.items.ensures)
+    IfOk-weaker c.front_lines.result (λ text. text.items ≡ top_text board (take n (map seen_pair c.items.result.now))) (λ text. ReportsFirst n rules list board rack text.items)
+    (λ text. front_reported 10 n rules list board rack (map seen_pair c.top_many-few.result.kept.items) (map seen_pair c.items.result.now) text.items few c.top_many-few.ensures.first c.items.ensures)
     c.front_lines.ensures
 
 pub front_lines-requires-2 : goal.front_lines-requires-2
@@ -35,6 +35,6 @@ returns c =
     let list = list_in c.args.pair.now in
     let board = c.args.board.now in
     let rack = c.args.rack.now in
-    IfOk-weaker c.front_lines-2.result (λ text. text.items ≡ top_text board (take n (map seen_pair c.items-2.result.now))) (λ text. TellsFirst n rules list board rack text.items)
-    (λ text. front_told 100 n rules list board rack (map seen_pair c.top_many-many.result.kept.items) (map seen_pair c.items-2.result.now) text.items c.requires c.top_many-many.ensures.first c.items-2.ensures)
+    IfOk-weaker c.front_lines-2.result (λ text. text.items ≡ top_text board (take n (map seen_pair c.items-2.result.now))) (λ text. ReportsFirst n rules list board rack text.items)
+    (λ text. front_reported 100 n rules list board rack (map seen_pair c.top_many-many.result.kept.items) (map seen_pair c.items-2.result.now) text.items c.requires c.top_many-many.ensures.first c.items-2.ensures)
     c.front_lines-2.ensures

@@ -11,5 +11,5 @@ returns c =
     let n = c.args.number in
     let plays = c.args.plays.now in
     IfOk-weaker c.top_lines.result (λ text. text.items ≡ top_text board (map seen_pair c.first_of.result.now)) (λ text. text.items ≡ top_text board (take n (map seen_pair plays)))
-    (λ text told. told ∙ ap (λ front. top_text board (map seen_pair front)) c.first_of.ensures ∙ ap (top_text board) (sym (take-map seen_pair n plays)))
+    (λ text reported. reported ∙ ap (λ front. top_text board (map seen_pair front)) c.first_of.ensures ∙ ap (top_text board) (sym (take-map seen_pair n plays)))
     c.top_lines.ensures

@@ -27,9 +27,9 @@ loop-place-preserved c =
     let a = c.index-words-place.result in
     let b = c.index-others-place.result in
     let many = as_many words in
-    let many_others = as_many others in
+    let count_others = as_many others in
     let within : c.loop-place.place < length others = omega arith in
-    same_more (items_of words) (items_of others) c.loop-place.place a.items b.items (omega (arith, many)) (omega (arith, many_others, within)) (item_at words c.loop-place.place a c.index-words-place.is)
+    same_more (items_of words) (items_of others) c.loop-place.place a.items b.items (omega (arith, many)) (omega (arith, count_others, within)) (item_at words c.loop-place.place a c.index-words-place.is)
     (item_at others c.loop-place.place b c.index-others-place.is)
     (sym c.deref.ensures.0 ∙ c.same_letters.ensures.0 c.if-not-same_letters.false ∙ c.deref-in-loop-place.ensures.0) c.loop-place.invariant
 
@@ -38,7 +38,7 @@ returns c =
     let words = c.args.words.now in
     let others = c.args.others.now in
     let many = as_many words in
-    let many_others = as_many others in
+    let count_others = as_many others in
     let all = c.loop-place-test.false in
     let long : length words ≡ length others = omega arith in
-    (λ yes_it. same_all (items_of words) (items_of others) c.loop-place.place (many ∙ long ∙ sym many_others) (omega (arith, many, all)) c.loop-place.invariant, λ same. refl)
+    (λ yes_it. same_all (items_of words) (items_of others) c.loop-place.place (many ∙ long ∙ sym count_others) (omega (arith, many, all)) c.loop-place.invariant, λ same. refl)

@@ -1,15 +1,15 @@
 use Rattle.std.proofs.Common.{◌≡◌, ◌++◌, ◌∷◌, length, map}
 use Rattle.std.specs.List.{slice_split, join_with_byte}
 use Rattle.text_lines.specs.Lines.{is_feed, without_mark}
-use Rattle.gcg_numbers.specs.Lines.{parts_behind}
+use Rattle.gcg_numbers.specs.Lines.{parts_after}
 use Rattle.gcg_numbers.specs.Numbers.{mark_of}
 use Rattle.gcg_drafts.specs.Texts.{completed_line}
 use Rattle.gcg_drafts.proofs.completing.push_completed.Given as goal
 
 abbrev pub invariant-loop-cut : goal.invariant-loop-cut
 invariant-loop-cut l =
-    l.out.items ++ join_with_byte 10 (map completed_line (l.cut.line.now ∷ parts_behind l.cut.after))
+    l.out.items ++ join_with_byte 10 (map completed_line (l.cut.line.now ∷ parts_after l.cut.after))
     ≡ (l.fn.out.items ++ mark_of l.text) ++ join_with_byte 10 (map completed_line (slice_split is_feed (without_mark l.text)))
 
 abbrev pub decreases-loop-cut : goal.decreases-loop-cut
-decreases-loop-cut l = length (parts_behind l.cut.after)
+decreases-loop-cut l = length (parts_after l.cut.after)

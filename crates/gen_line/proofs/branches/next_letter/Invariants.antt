@@ -1,5 +1,5 @@
 use Rattle.std.proofs.Common.{◌≡◌, ◌-◌, ◌<◌, ◌≤◌, ℕ, true}
-use Rattle.lex_file.specs.Lexicons.{NoTail, IsLeft}
+use Rattle.lex_file.specs.Lexicons.{NoTail, IsRemaining}
 use Rattle.gen_line.specs.Model.{shows}
 use Rattle.gen_line.proofs.branches.next_letter.Given as goal
 
@@ -8,7 +8,7 @@ invariant-loop-on g l =
     record {
       low : l.from ≤ l.next;
       high : l.next ≤ 27;
-      rest : IsLeft (g.L.PathLex.is_rest l.lex) l.node l.next l.remaining;
+      rest : IsRemaining (g.L.PathLex.is_rest l.lex) l.node l.next l.remaining;
       passed : (label : ℕ) → l.from ≤ label → label < l.next → shows l.free l.tiles.rack label ≡ true → NoTail (g.L.PathLex.tail l.lex) l.node label;
     }
 

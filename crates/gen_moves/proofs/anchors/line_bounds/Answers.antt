@@ -4,7 +4,7 @@ use Rattle.gen_cross.proofs.Filling.{values_more}
 use Rattle.gen_line.specs.Cells.{cell_at, is_anchor_cell}
 use Rattle.gen_line.specs.Walk.{anchor_moves}
 use Rattle.gen_moves.specs.Closing.{open_in}
-use Rattle.gen_moves.specs.Bounds.{IsAnchorBound, IsOffer, TellsUnder, place_in}
+use Rattle.gen_moves.specs.Bounds.{IsAnchorBound, IsOffer, ReportsUnder, place_in}
 use Rattle.gen_moves.proofs.Offering.{every-more, no_offers}
 use Rattle.gen_moves.proofs.anchors.line_bounds.Goals as goal
 
@@ -37,7 +37,7 @@ returns c path offers h below =
     let cells = c.args.cells.now in
     let places = place_in c.line_places-places.result in
     let bound = slice_index c.loop-anchor.bounds h in
-    let under : List ℕ → Type 0 = λ y. TellsUnder c.args.rules.now c.args.board.now c.args.dir c.args.line y bound in
+    let under : List ℕ → Type 0 = λ y. ReportsUnder c.args.rules.now c.args.board.now c.args.dir c.args.line y bound in
     ⊎_elim
     (λ (is : is_anchor_cell (cell_at cells h) ≡ true).
     every-more (IsOffer c.args.rules.now c.args.worth.points c.args.worth.ones c.args.board.now c.args.dir c.args.line cells places (open_in c.open_places-opens.result) h) under (anchor_moves path cells rack h)

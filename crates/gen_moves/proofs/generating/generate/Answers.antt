@@ -1,7 +1,7 @@
 use Rattle.std.proofs.Common.{subst, arith}
 use Rattle.std.specs.List.{flat_map}
 use Rattle.ref_play.specs.Best.{AreAll}
-use Rattle.gen_moves.specs.Telling.{both_cells}
+use Rattle.gen_moves.specs.Reporting.{both_cells}
 use Rattle.gen_moves.specs.Starts.{given_from}
 use Rattle.gen_moves.proofs.Offering.{right_scores}
 use Rattle.gen_moves.proofs.Settings.{setting_of}

@@ -12,6 +12,6 @@ returns-clause-factor c =
     let e : Dir = other_dir c.args.dir in
     let on : square < 225 = omega arith in
     let before : follows_tile e board square ≡ false = ap (λ (x : Dir). follows_tile x board square) (sym c.other.ensures) ∙ sym c.follows_tile.ensures ∙ c.if-follows_tile.false in
-    let behind : precedes_tile e board square 1 ≡ false =
+    let following : precedes_tile e board square 1 ≡ false =
     ap (λ (x : Dir). precedes_tile x board square 1) (sym c.other-else-follows_tile.ensures) ∙ sym c.precedes_tile.ensures ∙ c.if-precedes_tile.false in
-    inr (alone_scores_none board e square c.law_of_squares.ensures on before behind)
+    inr (alone_scores_none board e square c.law_of_squares.ensures on before following)

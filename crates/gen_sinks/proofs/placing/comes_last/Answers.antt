@@ -4,7 +4,7 @@ use Rattle.ref_play.specs.Legality.{IsLegal}
 use Rattle.gen_sinks.specs.Sinks.{seen, seen_pair}
 use Rattle.gen_sinks.specs.Ranks.{ranks_before}
 use Rattle.gen_sinks.proofs.Keeping.{legal_at}
-use Rattle.gen_sinks.proofs.Turns.{behind_last, not_so}
+use Rattle.gen_sinks.proofs.Turns.{after_last, not_so}
 use Rattle.gen_sinks.proofs.placing.comes_last.Goals as goal
 
 pub ranks_before-requires-clause-other : goal.ranks_before-requires-clause-other
@@ -16,11 +16,11 @@ ranks_before-requires-clause-other c =
     (legal_at c.args.board.now kept (length kept - 1) last c.law_of_squares.ensures c.requires.kept inside)
 
 pub returns : goal.returns
-returns c told place d inside =
+returns c reported place d inside =
     let board = c.args.board.now in
     let kept = c.args.kept.now in
     let play = c.args.play.now in
     let last = c.index-kept-many.result in
     let score = to_z w32 (of_z w32 c.args.score) in
     subst (λ (s : ℤ). ranks_before board (seen play s) (seen_pair (slice_index_or kept place d)) ≡ false) (to_z-of_z c.ranges.score)
-    (behind_last board (seen play score) kept last c.requires.turn c.index-kept-many.is (sym c.ranks_before.ensures ∙ not_so c.ranks_before.result told) place d inside)
+    (after_last board (seen play score) kept last c.requires.turn c.index-kept-many.is (sym c.ranks_before.ensures ∙ not_so c.ranks_before.result reported) place d inside)

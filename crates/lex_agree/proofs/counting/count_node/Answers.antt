@@ -1,7 +1,7 @@
 use Rattle.std.proofs.Common.{arith}
 use Rattle.lex_file.specs.Files.{number_of}
 use Rattle.lex_file.specs.Languages.{file_tail}
-use Rattle.lex_file.specs.SoundFiles.{file_nonempty}
+use Rattle.lex_file.specs.laws.Files.{file_nonempty}
 use Rattle.lex_file.specs.Walking.{next_strings}
 use Rattle.lex_agree.specs.Walks.{node_tail}
 use Rattle.lex_agree.proofs.Bounds.{label_more, last_label, longer}
@@ -15,9 +15,9 @@ loop-on-preserved c =
       low = omega arith;
       rest = c.in-Some.ensures.rest;
       below = label_more (file_tail bytes (number_of c.args.node)) (next_strings (node_tail bytes) branch.step.next) c.loop-on.from branch.label
-          c.loop-on.count c.count_behind-more.result c.sum_of-count.result branch.step.accepts c.in-Some.ensures.reached c.in-Some.ensures.passed
+          c.loop-on.count c.count_after-more.result c.sum_of-count.result branch.step.accepts c.in-Some.ensures.reached c.in-Some.ensures.passed
           c.in-Some.ensures.accepts (longer bytes c.args.node branch.label branch.step.next c.in-Some.ensures.next) c.loop-on.invariant.below
-          c.count_behind-more.ensures c.sum_of-count.ensures;
+          c.count_after-more.ensures c.sum_of-count.ensures;
     }
 
 pub returns : goal.returns

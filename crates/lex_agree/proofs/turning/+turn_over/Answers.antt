@@ -1,8 +1,8 @@
 use Rattle.std.proofs.Common.{◌≡◌, ◌+◌, ◌∙◌, length, set, take, arith}
 use Rattle.lex_agree.specs.Walks.{AreKept}
-use Rattle.lex_agree.proofs.Walking.{TurnsBehind, behind_none_there, behind_same, front_kept, front_longer, behind_mark_there, behind_letter_there, so_far_more, so_far_all}
+use Rattle.lex_agree.proofs.Walking.{TurnsAfter, after_none_there, after_same, front_kept, front_longer, after_mark_there, after_letter_there, so_far_more, so_far_all}
 use Rattle.lex_agree.proofs.turning.+turn_over.Goals as goal
-use Rattle.lex_agree.proofs.turning.+turn_over.Goals.{in-None, in-Some-next+else-not-turn_over_at, in-Some-2+in_ok-left-in-Some-2}
+use Rattle.lex_agree.proofs.turning.+turn_over.Goals.{in-None, in-Some-next+else-not-turn_over_at, in-Some-2+in_ok-remaining-in-Some-2}
 
 pub loop-on-preserved : goal.loop-on-preserved
 loop-on-preserved t c =
@@ -12,31 +12,31 @@ loop-on-preserved t c =
     let same = c.loop-on.invariant.front in
     let room = c.loop-on.invariant.room in
     let branch = c.in-Some.on.branch in
-    let there : TurnsBehind bytes front branch.label branch.step.next = elim c.match-branch.branch [
-      | in-None w ↦ behind_none_there bytes front c.args.node branch.label branch.step.next c.requires.node w.in-None.is c.in-Some.ensures.next
+    let there : TurnsAfter bytes front branch.label branch.step.next = elim c.match-branch.branch [
+      | in-None w ↦ after_none_there bytes front c.args.node branch.label branch.step.next c.requires.node w.in-None.is c.in-Some.ensures.next
       | in-Some-next+else-not-turn_over_at w ↦
-          behind_mark_there bytes front c.args.node w.in-Some-next.behind branch.label branch.step.next c.requires.node w.if-branch-eq-MARK.true
-          w.in-Some-next.is c.in-Some.ensures.next (behind_same bytes (take len c.loop-on.front) front w.in-Some-next.behind same w.if-not-turn_over_at.ensures.turned)
-      | in-Some-2+in_ok-left-in-Some-2 w ↦
-          behind_letter_there bytes front (take (len + 1) (set c.loop-on.front len branch.label)) branch.label branch.step.next w.in-Some-2.next
+          after_mark_there bytes front c.args.node w.in-Some-next.following branch.label branch.step.next c.requires.node w.if-branch-eq-MARK.true
+          w.in-Some-next.is c.in-Some.ensures.next (after_same bytes (take len c.loop-on.front) front w.in-Some-next.following same w.if-not-turn_over_at.ensures.turned)
+      | in-Some-2+in_ok-remaining-in-Some-2 w ↦
+          after_letter_there bytes front (take (len + 1) (set c.loop-on.front len branch.label)) branch.label branch.step.next w.in-Some-2.next
           w.if-branch-eq-MARK.false w.in-Some-2.is (front_longer c.loop-on.front c.args.front.now len branch.label (omega arith) same)
-          w.in_ok-left-in-Some-2.ensures.turned
+          w.in_ok-remaining-in-Some-2.ensures.turned
     ] in
     let labels : length c.match-branch.front ≡ 15 = elim c.match-branch.branch [
       | in-None w ↦ rw w.front-is room
       | in-Some-next+else-not-turn_over_at w ↦ rw w.front-is room
-      | in-Some-2+in_ok-left-in-Some-2 w ↦ rw w.front-is w.in_ok-left-in-Some-2.ensures.room
+      | in-Some-2+in_ok-remaining-in-Some-2 w ↦ rw w.front-is w.in_ok-remaining-in-Some-2.ensures.room
     ] in
     let still : take len c.match-branch.front ≡ front = elim c.match-branch.branch [
       | in-None w ↦ rw w.front-is same
       | in-Some-next+else-not-turn_over_at w ↦ rw w.front-is same
-      | in-Some-2+in_ok-left-in-Some-2 w ↦
-          rw w.front-is (front_kept c.loop-on.front w.turn_over.new.front len branch.label w.in_ok-left-in-Some-2.ensures.front ∙ same)
+      | in-Some-2+in_ok-remaining-in-Some-2 w ↦
+          rw w.front-is (front_kept c.loop-on.front w.turn_over.new.front len branch.label w.in_ok-remaining-in-Some-2.ensures.front ∙ same)
     ] in
     let kept : AreKept bytes c.match-branch.kept = elim c.match-branch.branch [
       | in-None w ↦ rw w.kept-is c.loop-on.invariant.kept
       | in-Some-next+else-not-turn_over_at w ↦ rw w.kept-is w.if-not-turn_over_at.ensures.kept
-      | in-Some-2+in_ok-left-in-Some-2 w ↦ rw w.kept-is w.in_ok-left-in-Some-2.ensures.kept
+      | in-Some-2+in_ok-remaining-in-Some-2 w ↦ rw w.kept-is w.in_ok-remaining-in-Some-2.ensures.kept
     ] in
     record {
       low = omega arith;

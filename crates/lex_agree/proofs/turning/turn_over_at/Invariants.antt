@@ -8,9 +8,9 @@ abbrev pub invariant-loop-on : goal.invariant-loop-on
 invariant-loop-on l =
     record {
       low : l.from ≤ 27;
-      rest : IsRest l.file.bytes.now (number_of l.behind) l.from l.rest;
+      rest : IsRest l.file.bytes.now (number_of l.following) l.from l.rest;
       kept : AreKept l.file.bytes.now l.kept;
-      below : TurnsBelow l.file.bytes.now l.front l.behind l.from;
+      below : TurnsBelow l.file.bytes.now l.front l.following l.from;
     }
 
 abbrev pub decreases-loop-on : goal.decreases-loop-on

@@ -16,9 +16,9 @@ loop-label-init g t c = record {
 pub returns-in-Err-clause-written : goal.returns-in-Err-clause-written
 returns-in-Err-clause-written g t c =
     let lexicon = c.args.lexicon.now in
-    let behind = rw c.in-Some-next.is at c.in-Some.ensures.next in
-    branch_fails (g.L.PathLex.is_node lexicon) (g.L.PathLex.tail lexicon) (g.L.PathLex.height lexicon) c.args.node c.in-Some.field-0.label c.in-Some-next.next behind
-    (g.met.L.PathLex.nonempty lexicon c.in-Some-next.next behind.node) (body_of c.args.writer.now.bytes.items) (body_of c.loop-label.writer.bytes.items) c.loop-label.from
+    let following = rw c.in-Some-next.is at c.in-Some.ensures.next in
+    branch_fails (g.L.PathLex.is_node lexicon) (g.L.PathLex.tail lexicon) (g.L.PathLex.height lexicon) c.args.node c.in-Some.field-0.label c.in-Some-next.next following
+    (g.met.L.PathLex.nonempty lexicon c.in-Some-next.next following.node) (body_of c.args.writer.now.bytes.items) (body_of c.loop-label.writer.bytes.items) c.loop-label.from
     c.loop-label.arcs.items c.in-Err.why c.in-Some.ensures.reached c.loop-label.invariant.gathered c.in-Err.ensures.written
 
 pub loop-label-preserved : goal.loop-label-preserved
@@ -34,10 +34,10 @@ loop-label-preserved g t c =
     let branch : IsBranch (body_of c.loop-label.writer.bytes.items) (body_of c.match-step.writer.bytes.items) tail label c.match-step.target =
     elim c.match-step.branch [
       | in-Some-next+in-Ok w ↦
-          let behind = rw w.in-Some-next.is at c.in-Some.ensures.next in
+          let following = rw w.in-Some-next.is at c.in-Some.ensures.next in
           rw (w.writer-is, w.target-is)
-          (branch_goes (g.L.PathLex.is_node lexicon) (g.L.PathLex.tail lexicon) (g.L.PathLex.height lexicon) c.args.node label w.in-Some-next.next behind
-          (g.met.L.PathLex.nonempty lexicon w.in-Some-next.next behind.node) (body_of c.loop-label.writer.bytes.items) (body_of w.write_node.new.writer.bytes.items) _ w.in-Ok.ensures.written)
+          (branch_goes (g.L.PathLex.is_node lexicon) (g.L.PathLex.tail lexicon) (g.L.PathLex.height lexicon) c.args.node label w.in-Some-next.next following
+          (g.met.L.PathLex.nonempty lexicon w.in-Some-next.next following.node) (body_of c.loop-label.writer.bytes.items) (body_of w.write_node.new.writer.bytes.items) _ w.in-Ok.ensures.written)
       | in-None w ↦
           let none = rw w.in-None.is at c.in-Some.ensures.next in
           let alive = rw w.in-None.is at c.in-Some.ensures.alive in

@@ -10,7 +10,7 @@ loop-low-preserved-then-label_at-label c =
       order = omega arith;
       to = omega arith;
       before = lower_part c.args.paths.now c.args.stretch c.args.label mid c.requires (omega arith) (omega arith);
-      behind = c.loop-low.invariant.behind;
+      following = c.loop-low.invariant.following;
     }
 
 pub loop-low-preserved : goal.loop-low-preserved
@@ -21,5 +21,5 @@ loop-low-preserved c =
       order = omega arith;
       to = omega arith;
       before = c.loop-low.invariant.before;
-      behind = upper_part c.args.paths.now c.args.stretch c.args.label mid c.requires (omega arith) (omega arith);
+      following = upper_part c.args.paths.now c.args.stretch c.args.label mid c.requires (omega arith) (omega arith);
     }

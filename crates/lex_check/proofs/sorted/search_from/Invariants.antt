@@ -9,7 +9,7 @@ invariant-loop-low l =
       order : l.low ≤ l.high;
       to : l.high ≤ l.stretch.high;
       before : (place : ℕ) → l.stretch.low ≤ place → place < l.low → label_at l.paths l.stretch.depth place < l.label;
-      behind : (place : ℕ) → l.high ≤ place → place < l.stretch.high → l.label ≤ label_at l.paths l.stretch.depth place;
+      following : (place : ℕ) → l.high ≤ place → place < l.stretch.high → l.label ≤ label_at l.paths l.stretch.depth place;
     }
 
 abbrev pub decreases-loop-low : goal.decreases-loop-low

@@ -19,11 +19,11 @@ loop-place-preserved c =
     elim c.if-is_last.branch [
       | then-is_last w ↦
           let next = next_of_last (words_in c.args.arcs.now) c.loop-place.place (search rules) in
-          rw (w.behind-is, w.room-is) (record { fine = search (rules, fine_more); node = next.0; order = next.1; few = omega arith })
+          rw (w.following-is, w.room-is) (record { fine = search (rules, fine_more); node = next.0; order = next.1; few = omega arith })
       | else-is_last w ↦
           let low : w.of_word.result.label ≤ 26 = search (rules, low_label) in
           let next = next_of_more (words_in c.args.arcs.now) c.loop-place.place (26 - w.of_word.result.label) (search rules) (search (rules, arith, low)) in
-          rw (w.behind-is, w.room-is) (record { fine = search (rules, fine_more); node = c.loop-place.invariant.node ∙ next.0; order = next.1; few = omega arith })
+          rw (w.following-is, w.room-is) (record { fine = search (rules, fine_more); node = c.loop-place.invariant.node ∙ next.0; order = next.1; few = omega arith })
     ]
 
 pub returns-in_err-check_arc : goal.returns-in_err-check_arc

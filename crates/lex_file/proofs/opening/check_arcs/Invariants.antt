@@ -8,7 +8,7 @@ abbrev pub invariant-loop-place : goal.invariant-loop-place
 invariant-loop-place l =
     record {
       fine : arcs_fault (words_in l.arcs) l.place ≡ None;
-      node : l.behind ≡ start_at (words_in l.arcs) l.place - 2;
+      node : l.following ≡ start_at (words_in l.arcs) l.place - 2;
       order : IsLeast (words_in l.arcs) l.place (27 - l.room);
       few : l.room ≤ 27;
     }

@@ -3,7 +3,7 @@ use Rattle.std.proofs.lemmas.Bool.{lt-leb}
 use Rattle.lex_file.specs.declared.arcs.Arc.{Arc}
 use Rattle.lex_file.specs.FileWords.{words_in}
 use Rattle.lex_file.specs.Arcs.{arc_of, is_sought, reaches}
-use Rattle.lex_file.proofs.Runs.{goes_on, ends_here, left_more}
+use Rattle.lex_file.proofs.Runs.{goes_on, ends_here, remaining_more}
 use Rattle.lex_file.proofs.reading.find_arc.Goals as goal
 
 pub returns-then-last-clause-rest : goal.returns-then-last-clause-rest
@@ -17,7 +17,7 @@ pub returns-else-last-clause-rest : goal.returns-else-last-clause-rest
 returns-else-last-clause-rest c = λ above passes less.
     let is = c.of_word-arc.ensures ∙ ap arc_of c.word_at-word.ensures in
     c.loop-place.invariant (reaches above) (λ arc passed. lt-leb above arc.label (passes arc passed))
-    ∙ left_more (words_in c.args.arcs.now) c.loop-place.place (reaches above) (omega arith)
+    ∙ remaining_more (words_in c.args.arcs.now) c.loop-place.place (reaches above) (omega arith)
     (subst (λ (a : Arc). reaches above a ≡ false) is (lt-leb above c.of_word-arc.result.label less)) (let w = c.word_at-word.ensures in cc)
 
 pub returns-then-last-2-clause-none : goal.returns-then-last-2-clause-none

@@ -1,9 +1,9 @@
 use Rattle.std.proofs.Common.{◌∙◌, ap, subst, ℕ, List, None}
 use Rattle.gcg_read.specs.declared.events.Event.{Event}
 use Rattle.lex_check.specs.Pairs.{list_in}
-use Rattle.name_texts.specs.Encodings.{encoding_of}
-use Rattle.record_words.specs.Words.{AreWordsOf}
-use Rattle.case_explanations.specs.Explaining.{IsExplanation}
+use Rattle.gcg_names.specs.Encodings.{encoding_of}
+use Rattle.gcg_about.specs.Words.{AreWordsOf}
+use Rattle.explain_answers.specs.Explaining.{IsExplanation}
 use Rattle.page_answers.specs.Sheets.{IsPageSheet}
 use Rattle.page_answers.specs.Pages.{faulty_place, place_in_view}
 use Rattle.page_answers.proofs.contents.contents_of.Goals as goal

@@ -3,8 +3,8 @@ use Rattle.gcg_read.specs.declared.events.Event.{Event}
 use Rattle.gcg_read.specs.declared.records.Record.{Record}
 use Rattle.lex_check.specs.Pairs.{list_in}
 use Rattle.repair_answers.specs.Lines.{before_numbers}
-use Rattle.repair_answers.specs.Tried.{many_walked}
-use Rattle.repair_answers.specs.declared.evidence.Told.{Told}
+use Rattle.repair_answers.specs.Tried.{count_walked}
+use Rattle.repair_answers.specs.declared.evidence.Reported.{Reported}
 use Rattle.repair_answers.proofs.Wanted.{found_of}
 use Rattle.repair_answers.proofs.answers.faulty_of.Goals as goal
 
@@ -16,12 +16,12 @@ returns-clause-faulty c =
     let long = c.len-plays.ensures in
     let many : c.len-plays.result ≡ length c.in_ok-singles.singles.plays.items = omega arith in
     let walked = c.as_slice-events.ensures ∙ c.in_ok-pairs.ensures.same ∙ same_too in
-    let changes = c.in_ok-tries.ensures.changes ∙ ap (λ (n : ℕ). many_walked c.args.rules.now c.as_slice-events.result.now c.args.walk.now + n) many
-    ∙ ap (λ (es : List Event). many_walked c.args.rules.now es c.args.walk.now + length c.in_ok-singles.singles.plays.items) walked in
-    let all = subst (λ (es : List Event). many_walked c.args.rules.now es c.args.walk.now * length es ≤ 4000000 → c.in_ok-limit.limit ≡ None) (c.as_slice.ensures ∙ same) c.in_ok-limit.ensures in
-    let before = c.before_numbers-before.ensures ∙ ap (λ (ls : List Told). before_numbers c.in_ok-alone.alone c.as_slice-told.result.now ls) c.as_slice-2.ensures.value in
+    let changes = c.in_ok-tries.ensures.changes ∙ ap (λ (n : ℕ). count_walked c.args.rules.now c.as_slice-events.result.now c.args.walk.now + n) many
+    ∙ ap (λ (es : List Event). count_walked c.args.rules.now es c.args.walk.now + length c.in_ok-singles.singles.plays.items) walked in
+    let all = subst (λ (es : List Event). count_walked c.args.rules.now es c.args.walk.now * length es ≤ 4000000 → c.in_ok-limit.limit ≡ None) (c.as_slice.ensures ∙ same) c.in_ok-limit.ensures in
+    let before = c.before_numbers-before.ensures ∙ ap (λ (ls : List Reported). before_numbers c.in_ok-alone.alone c.as_slice-reported.result.now ls) c.as_slice-2.ensures.value in
     found_of c.args.rules.now (list_in c.args.pair.now) c.list-list.result.now c.args.text.now c.args.game.now.events c.unchanged.new.game.events c.first_repairs.new.events c.as_slice-events.result.now c.args.walk.now
-    c.args.most c.saturating_mul-wanted.result c.below_of-below.result c.as_slice-told.result.now c.as_slice-told.result.now c.as_slice-3.result.now
+    c.args.most c.saturating_mul-wanted.result c.below_of-below.result c.as_slice-reported.result.now c.as_slice-reported.result.now c.as_slice-3.result.now
     (record {
       alone = c.in_ok-alone.alone;
       plays = c.in_ok-singles.singles.plays;
@@ -35,5 +35,5 @@ returns-clause-faulty c =
       tried = c.in_ok-tries.tries.tried;
       untried = c.in_ok-tries.tries.untried;
     })
-    c.list-list.ensures.list same c.in_ok-alone.ensures.alone c.below_of-below.ensures c.saturating_mul-wanted.ensures c.in_ok-singles.ensures.plays c.in_ok-singles.ensures.told
-    c.as_slice-told.ensures.value c.in_ok-lines.ensures before same_too c.as_slice-told.ensures.value c.in_ok-pairs.ensures.told c.as_slice-3.ensures.value c.in_ok-pair_lines.ensures walked c.in_ok-sheets.ensures (λ few. c.in_ok-singles.ensures.all (all few)) c.in_ok-tries.ensures.untried changes c.in_ok-tries.ensures.tried
+    c.list-list.ensures.list same c.in_ok-alone.ensures.alone c.below_of-below.ensures c.saturating_mul-wanted.ensures c.in_ok-singles.ensures.plays c.in_ok-singles.ensures.reported
+    c.as_slice-reported.ensures.value c.in_ok-lines.ensures before same_too c.as_slice-reported.ensures.value c.in_ok-pairs.ensures.reported c.as_slice-3.ensures.value c.in_ok-pair_lines.ensures walked c.in_ok-sheets.ensures (λ few. c.in_ok-singles.ensures.all (all few)) c.in_ok-tries.ensures.untried changes c.in_ok-tries.ensures.tried

@@ -8,5 +8,5 @@ returns-in-len1-up c =
     let parts = c.first-item.result ∷ take (length c.args.sheets.now - 1) (drop 1 c.args.sheets.now) in
     let same : c.args.sheets.now ≡ parts = whole c.args.sheets.now c.first-item.result (search rules) (search rules) in
     let known = sym c.all_known.ensures ∙ c.if-not-all_known.false in
-    same_choice c.args.found.now.told.items c.as_slice-told.result.now (all_known c.args.found.now.left.items c.args.found.now.from) c.args.pairs.now c.args.sheets.now parts c.args.alone.now
-    c.with_sheets.result c.as_slice-told.ensures.value known same c.with_sheets.ensures
+    same_choice c.args.found.now.reported.items c.as_slice-reported.result.now (all_known c.args.found.now.remaining.items c.args.found.now.from) c.args.pairs.now c.args.sheets.now parts c.args.alone.now
+    c.with_sheets.result c.as_slice-reported.ensures.value known same c.with_sheets.ensures

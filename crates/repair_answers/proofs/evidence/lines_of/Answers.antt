@@ -15,5 +15,5 @@ loop-index-preserved g c =
     let ok = c.loop-index.lines.ok in
     let room : length c.loop-index.lines.items < c.args.most = omega arith in
     record {
-      so_far = lines_more g.T.Lined.like c.args.items.now c.args.most c.loop-index.index c.loop-index.lines.items c.push_line.new.lines.items so_far room c.in_ok-push_line.ensures;
+      so_far = lines_more g.T.Lined.like c.args.items.now c.args.most c.loop-index.index c.loop-index.lines.items c.push_line_of_first.new.lines.items so_far room c.in_ok-push_line_of_first.ensures;
     }

@@ -9,5 +9,5 @@ returns-clause-likely c =
     likely_of c.args.rules.now (list_in c.args.pair.now) c.list-list.result.now c.args.text.now c.args.game.now.events c.unchanged.new.game.events c.first_repairs.new.events c.as_slice-2.result.now
     c.in_ok-alone.alone c.below_of-below.result c.args.walk.now c.in_ok-singles.singles.plays.items c.in_ok-singles.singles.found c.as_slice.result.now c.in_ok-two.two c.as_slice-3.result.now
     c.in_ok-sheets.sheets.items c.chosen.result c.list-list.ensures.list (ap (λ (g : Record). g.events) c.in_ok-alone.ensures.same) c.in_ok-singles.ensures.same
-    (c.as_slice-2.ensures ∙ c.in_ok-two.ensures.same) c.in_ok-alone.ensures.alone c.below_of-below.ensures c.requires c.in_ok-singles.ensures.plays c.in_ok-singles.ensures.told c.as_slice.ensures.value
-    c.in_ok-two.ensures.told c.as_slice-3.ensures.value c.in_ok-sheets.ensures c.chosen.ensures
+    (c.as_slice-2.ensures ∙ c.in_ok-two.ensures.same) c.in_ok-alone.ensures.alone c.below_of-below.ensures c.requires c.in_ok-singles.ensures.plays c.in_ok-singles.ensures.reported c.as_slice.ensures.value
+    c.in_ok-two.ensures.reported c.as_slice-3.ensures.value c.in_ok-sheets.ensures c.chosen.ensures

@@ -5,5 +5,5 @@ use Rattle.repair_answers.proofs.sheet_choices.beside_sheet.Goals as goal
 
 pub returns-in-Clear : goal.returns-in-Clear
 returns-in-Clear c =
-    λ told pairs rest behind is.
-    c.repair_beside.ensures told pairs c.args.alone.now rest behind (subst (λ (what : Choice). IsChoice told true pairs [] c.args.alone.now what) c.in-Clear.is is)
+    λ reported pairs rest following is.
+    c.repair_beside.ensures reported pairs c.args.alone.now rest following (subst (λ (what : Choice). IsChoice reported true pairs [] c.args.alone.now what) c.in-Clear.is is)

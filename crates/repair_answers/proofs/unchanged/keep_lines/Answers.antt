@@ -1,6 +1,6 @@
 use Rattle.std.proofs.Common.{rules, tests}
 use Rattle.std.proofs.lemmas.List.Elements.{filter_from_retain}
-use Rattle.record_repairs.specs.Remaining.{is_on_line}
+use Rattle.repair_single.specs.Remaining.{is_on_line}
 use Rattle.repair_answers.proofs.unchanged.keep_lines.Goals as goal
 
 pub returns : goal.returns

@@ -1,6 +1,6 @@
 use Rattle.std.proofs.Common.{map, ap, ◌∙◌}
-use Rattle.game_rows.specs.Numbers.{numbers_in, renumbered}
-use Rattle.game_rows.proofs.Renumbering.{back_again}
+use Rattle.game_walk.specs.Numbers.{numbers_in, renumbered}
+use Rattle.game_walk.proofs.Renumbering.{back_again}
 use Rattle.repair_answers.proofs.Alone.{same_again}
 use Rattle.repair_answers.proofs.unchanged.unchanged.Goals as goal
 

@@ -1,6 +1,6 @@
 use Rattle.std.proofs.Common.{◌∙◌, ap}
-use Rattle.event_notes.specs.Unlisted.{letters_in, unlisted_of}
-use Rattle.record_repairs.proofs.Audits.{rows_more, no_rows}
+use Rattle.game_bests.specs.Unlisted.{letters_in, unlisted_of}
+use Rattle.repair_single.proofs.Audits.{rows_more, no_rows}
 use Rattle.repair_answers.proofs.unchanged.unlisted_words.Goals as goal
 
 pub loop-row-init : goal.loop-row-init

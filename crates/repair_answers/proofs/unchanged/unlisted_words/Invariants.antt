@@ -1,6 +1,6 @@
 use Rattle.std.proofs.Common.{◌≡◌, take}
-use Rattle.event_notes.specs.Unlisted.{letters_in}
-use Rattle.record_repairs.specs.Remaining.{words_of_rows}
+use Rattle.game_bests.specs.Unlisted.{letters_in}
+use Rattle.repair_single.specs.Remaining.{words_of_rows}
 use Rattle.repair_answers.proofs.unchanged.unlisted_words.Given as goal
 
 abbrev pub invariant-loop-row : goal.invariant-loop-row

@@ -1,6 +1,6 @@
 use Rattle.std.proofs.Common.{map, ap, ◌∙◌, sym, subst}
-use Rattle.game_sheets.specs.Corrections.{HavePoints}
-use Rattle.game_rows.specs.Numbers.{numbers_in}
+use Rattle.game_corrections.specs.Corrections.{HavePoints}
+use Rattle.game_walk.specs.Numbers.{numbers_in}
 use Rattle.repair_answers.specs.Unchanged.{IsFound}
 use Rattle.repair_answers.proofs.Alone.{whole, goes_through, none_game, numbers_alone}
 use Rattle.repair_answers.proofs.unchanged.with_right_numbers.Goals as goal

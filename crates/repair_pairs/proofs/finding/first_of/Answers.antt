@@ -14,7 +14,7 @@ first_pairs-requires c =
 
 pub returns : goal.returns
 returns c =
-    let all = c.args.pairs.told.items in
+    let all = c.args.pairs.reported.items in
     let sorted = c.sort_by_key.new.self.items in
     let each = All-permutation (Contains all) all sorted c.sort_by_key.ensures.permutation (All-contains_itself all) in
-    record { heads = refl; told = first_of_all all sorted c.in_ok-told.told.items c.args.most (λ p among. All-contains (Contains all) sorted p each among) c.in_ok-told.ensures }
+    record { heads = refl; reported = first_of_all all sorted c.in_ok-reported.reported.items c.args.most (λ p among. All-contains (Contains all) sorted p each among) c.in_ok-reported.ensures }

@@ -1,6 +1,6 @@
 use Rattle.std.proofs.Common.{◌<◌, ◌≤◌, ◌∙◌, [], length, refl, sym, arith}
-use Rattle.record_repairs.proofs.PlaceChanges.{is_listed, listed_here, rows_fit}
-use Rattle.record_repairs.proofs.WithPlays.{none_with}
+use Rattle.repair_single.proofs.PlaceChanges.{is_listed, listed_here, rows_fit}
+use Rattle.repair_single.proofs.WithPlays.{none_with}
 use Rattle.repair_pairs.proofs.listed.listed_at.Goals as goal
 
 pub returns : goal.returns

@@ -13,4 +13,4 @@ returns c =
     let inside : place + many ≤ length made = omega arith in
     let end = c.loop-place-test.false in
     subst (λ (m : ℕ). All (λ (e : Event). e.line ≡ 0 → ⊥) (take m (drop place made))) c.wrong_events-many.ensures.number
-    (window (λ (e : Event). e.line ≡ 0 → ⊥) made place many inside (λ k e behind below at. c.loop-place.invariant.on_sheet k e behind (omega (arith, below, end)) at))
+    (window (λ (e : Event). e.line ≡ 0 → ⊥) made place many inside (λ k e following below at. c.loop-place.invariant.on_sheet k e following (omega (arith, below, end)) at))

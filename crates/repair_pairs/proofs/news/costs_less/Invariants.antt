@@ -1,6 +1,6 @@
 use Rattle.std.proofs.Common.{ℕ, ◌<◌, get_or}
-use Rattle.record_repairs.specs.Costs.{rank_of}
-use Rattle.record_repairs.specs.declared.repair.Repair.{Repair}
+use Rattle.repair_single.specs.Costs.{rank_of}
+use Rattle.repair_single.specs.declared.repair.Repair.{Repair}
 use Rattle.repair_pairs.proofs.news.costs_less.Given as goal
 
 abbrev pub invariant-loop-single : goal.invariant-loop-single

@@ -1,6 +1,6 @@
 use Rattle.std.proofs.Common.{ℕ, ◌<◌, get_or}
-use Rattle.record_repairs.specs.Repairs.{SameRecord}
-use Rattle.record_repairs.specs.declared.repair.Repair.{Repair}
+use Rattle.repair_single.specs.Repairs.{SameRecord}
+use Rattle.repair_single.specs.declared.repair.Repair.{Repair}
 use Rattle.repair_pairs.proofs.news.makes_other.Given as goal
 
 abbrev pub invariant-loop-single : goal.invariant-loop-single

@@ -1,5 +1,5 @@
 use Rattle.std.proofs.Common.{◌≡◌, ℕ, ◌<◌, get_or, true}
-use Rattle.game_sheets.specs.declared.wrong_numbers.WrongNumber.{WrongNumber}
+use Rattle.game_corrections.specs.declared.wrong_numbers.WrongNumber.{WrongNumber}
 use Rattle.repair_pairs.specs.Pairs.{is_on_sheet}
 use Rattle.repair_pairs.proofs.news.wrong_on_sheet.Given as goal
 

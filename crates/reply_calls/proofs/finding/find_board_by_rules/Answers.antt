@@ -1,8 +1,8 @@
 use Rattle.std.proofs.Common.{◌∷◌, [], Err, refl}
-use Rattle.call_stages.specs.Reading.{ReadsRulesBut}
-use Rattle.call_stages.specs.Runs.{outcomes}
-use Rattle.call_stages.specs.Sources.{game_source}
-use Rattle.call_stages.proofs.Answering.{asks_unruled, asks_bad_rules, asks_rules}
+use Rattle.engine_stages.specs.Reading.{ReadsRulesBut}
+use Rattle.engine_stages.specs.Runs.{outcomes}
+use Rattle.engine_stages.specs.Sources.{game_source}
+use Rattle.engine_stages.proofs.Answering.{asks_unruled, asks_bad_rules, asks_rules}
 use Rattle.reply_calls.specs.Found.{IsBoardFound, board_later}
 use Rattle.reply_calls.proofs.finding.find_board_by_rules.Goals as goal
 

@@ -1,6 +1,6 @@
 use Rattle.std.proofs.Common.{◌∷◌, [], subst}
-use Rattle.call_stages.specs.Runs.{Gives, outcomes}
-use Rattle.call_stages.specs.Sources.{game_source}
+use Rattle.engine_stages.specs.Runs.{Gives, outcomes}
+use Rattle.engine_stages.specs.Sources.{game_source}
 use Rattle.lex_check.specs.Pairs.{list_in}
 use Rattle.reply_calls.specs.Found.{IsFoundOnSecond}
 use Rattle.reply_calls.proofs.SheetLaws.{on_both}

@@ -2,6 +2,6 @@ use Rattle.std.proofs.Common.{rules}
 use Rattle.game_turns.specs.Checks.{check_challenge}
 use Rattle.game_turns.proofs.machine.Machine.check_challenge.Goals as goal
 
-pub returns-then-not-any_listed-clause-told : goal.returns-then-not-any_listed-clause-told
+pub returns-then-not-any_listed-clause-reported : goal.returns-then-not-any_listed-clause-reported
 unfolding check_challenge
-returns-then-not-any_listed-clause-told c = search rules
+returns-then-not-any_listed-clause-reported c = search rules

@@ -11,9 +11,9 @@ invariant_of-self c =
     let n = length laid.play.tiles.items in
     let had = ap (λ side. side.rack) c.of.ensures in
     let few : n ≤ (side_of self.sides event.player).rack = omega arith in
-    let left : c.of.result.now.rack - c.len.result ≡ (side_of self.sides event.player).rack - n = omega arith in
+    let remaining : c.of.result.now.rack - c.len.result ≡ (side_of self.sides event.player).rack - n = omega arith in
     record {
       racks = fit_waiting self.sides c.set_total.new.self c.set_rack.new.self self.latest event.player event.total (c.of.result.now.rack - c.len.result) laid
-          self.racks c.set_total.ensures few left c.requires.player c.set_rack.ensures;
+          self.racks c.set_total.ensures few remaining c.requires.player c.set_rack.ensures;
       tiles = holds_played c.apply.new.board laid c.apply.ensures.there;
     }

@@ -56,12 +56,12 @@ letter_left-one_left-requires-2 g t c κs within =
 
 pub letter_left-returns-clause-took : goal.letter_left-returns-clause-took
 letter_left-returns-clause-took g t c =
-    let tells = g.T.Taker.tell c.args.self.now.taker.now in
+    let reports = g.T.Taker.report c.args.self.now.taker.now in
     let next : List ℕ → Bool = strings (g.L.PathLex.tail c.args.self.now.lex.now) c.args.next in
     let tile : List (List ℕ) = gives_try_left next c.args.self.now.line.now c.args.self.now.last c.args.place c.args.free.now c.args.tiles.now (2 * c.args.label - 1) in
     let blank : List (List ℕ) = gives_try_left next c.args.self.now.line.now c.args.self.now.last c.args.place c.args.free.now c.args.tiles.now (2 * c.args.label) in
-    took-more (tells (g.T.Taker.made_for c.args.sink.now)) _ tile blank _ _ _ c.in_ok-one_left.ensures.took
-    (took-for tells _ _ _ blank _ _ c.in_ok-one_left.ensures.made_for c.one_left-2.ensures.took)
+    took-more (reports (g.T.Taker.made_for c.args.sink.now)) _ tile blank _ _ _ c.in_ok-one_left.ensures.took
+    (took-for reports _ _ _ blank _ _ c.in_ok-one_left.ensures.made_for c.one_left-2.ensures.took)
 
 -- ---- one cell
 
@@ -126,13 +126,13 @@ left-tries_left-requires g t c κs within =
 pub left-returns-else-free-clause-took : goal.left-returns-else-free-clause-took
 left-returns-else-free-clause-took g t c =
     let some : 0 < c.args.places = omega arith in
-    let tells = g.T.Taker.tell c.args.self.now.taker.now in
+    let reports = g.T.Taker.report c.args.self.now.taker.now in
     let here : List ℕ → Bool = strings (g.L.PathLex.tail c.args.self.now.lex.now) c.args.at in
     let turned : List (List ℕ) = gives_turn here c.args.self.now.line.now c.args.self.now.last c.args.tiles.now in
     let tried : List (List ℕ) = gives_tries_left here c.args.self.now.line.now c.args.self.now.last (c.args.places - 1) c.in-Free.free c.args.tiles.now in
     took-same _ _ _ _ _ _ (gives_left-go here c.args.self.now.line.now c.args.self.now.last c.args.places _ c.args.tiles.now some c.in-Free.is c.if-free.false)
-    (took-more (tells (g.T.Taker.made_for c.args.sink.now)) _ turned tried _ _ _ c.in_ok-turn-in-Free.ensures.took
-    (took-for tells _ _ _ tried _ _ c.in_ok-turn-in-Free.ensures.made_for c.tries_left.ensures.took))
+    (took-more (reports (g.T.Taker.made_for c.args.sink.now)) _ turned tried _ _ _ c.in_ok-turn-in-Free.ensures.took
+    (took-for reports _ _ _ tried _ _ c.in_ok-turn-in-Free.ensures.made_for c.tries_left.ensures.took))
 
 -- ---- the entries of a cell
 
@@ -159,7 +159,7 @@ tries_left-letter_left-requires g t c κs within =
 
 pub tries_left-loop-on-preserved : goal.tries_left-loop-on-preserved
 tries_left-loop-on-preserved g t c =
-    let tells = g.T.Taker.tell c.args.self.now.taker.now in
+    let reports = g.T.Taker.report c.args.self.now.taker.now in
     let tail = g.L.PathLex.tail c.args.self.now.lex.now in
     let here : List ℕ → Bool = strings tail c.args.at in
     let tried : ℕ → List (List ℕ) = gives_one_left here c.args.self.now.line.now c.args.self.now.last c.args.place c.args.free.now c.args.tiles.now in
@@ -174,12 +174,12 @@ tries_left-loop-on-preserved g t c =
       rest = c.in-Some-next_letter.ensures.rest;
       made_for = c.in_ok-letter_left.ensures.made_for ∙ c.loop-on.invariant.made_for;
       took = labels-took _ tried label c.loop-on.from on _ _ _ goes c.loop-on.invariant.took
-          (all-for tells _ _ _ on _ c.loop-on.invariant.made_for c.in_ok-letter_left.ensures.took);
+          (all-for reports _ _ _ on _ c.loop-on.invariant.made_for c.in_ok-letter_left.ensures.took);
     }
 
 pub tries_left-returns-in_err-letter_left-clause-took : goal.tries_left-returns-in_err-letter_left-clause-took
 tries_left-returns-in_err-letter_left-clause-took g t c =
-    let tells = g.T.Taker.tell c.args.self.now.taker.now in
+    let reports = g.T.Taker.report c.args.self.now.taker.now in
     let tail = g.L.PathLex.tail c.args.self.now.lex.now in
     let here : List ℕ → Bool = strings tail c.args.at in
     let tried : ℕ → List (List ℕ) = gives_one_left here c.args.self.now.line.now c.args.self.now.last c.args.place c.args.free.now c.args.tiles.now in
@@ -192,7 +192,7 @@ tries_left-returns-in_err-letter_left-clause-took g t c =
     took-refused _ _ _ _ _ _ c.from_residual.ensures.1
     (front-same _ _ _ _ _ (tries_left-is here c.args.self.now.line.now c.args.self.now.last c.args.place c.args.free.now c.args.tiles.now)
     (labels-front _ tried label c.loop-on.from on _ _ _ some c.in-Some-next_letter.ensures.label goes c.loop-on.invariant.took
-    (front-for tells _ _ _ on _ c.loop-on.invariant.made_for c.in_err-letter_left.ensures.took)))
+    (front-for reports _ _ _ on _ c.loop-on.invariant.made_for c.in_err-letter_left.ensures.took)))
 
 pub tries_left-returns-clause-took : goal.tries_left-returns-clause-took
 tries_left-returns-clause-took g t c =

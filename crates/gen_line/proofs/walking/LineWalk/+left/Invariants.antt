@@ -1,6 +1,6 @@
 use Rattle.std.proofs.Common.{◌≡◌, ◌≤◌, ◌+◌, ◌-◌, ◌*◌}
 use Rattle.gen_line.specs.Model.{join_range}
-use Rattle.lex_file.specs.Lexicons.{IsLeft}
+use Rattle.lex_file.specs.Lexicons.{IsRemaining}
 use Rattle.lex_file.specs.Walking.{strings}
 use Rattle.gen_line.specs.Walk.{add_all, gives_one_left}
 use Rattle.gen_line.proofs.walking.LineWalk.+left.Given as goal
@@ -21,9 +21,9 @@ abbrev pub invariant-tries_left-loop-on : goal.invariant-tries_left-loop-on
 invariant-tries_left-loop-on g l = record {
   low : 1 ≤ l.from;
   high : l.from ≤ 27;
-  rest : IsLeft (g.L.PathLex.is_rest l.self.lex.now) l.node l.from l.rest;
+  rest : IsRemaining (g.L.PathLex.is_rest l.self.lex.now) l.node l.from l.rest;
   made_for : g.T.Taker.made_for l.sink ≡ g.T.Taker.made_for l.initial.sink;
-  took : g.T.Taker.items l.sink ≡ add_all (g.T.Taker.tell l.self.taker.now (g.T.Taker.made_for l.initial.sink)) (g.T.Taker.items l.initial.sink)
+  took : g.T.Taker.items l.sink ≡ add_all (g.T.Taker.report l.self.taker.now (g.T.Taker.made_for l.initial.sink)) (g.T.Taker.items l.initial.sink)
       (join_range (gives_one_left (strings (g.L.PathLex.tail l.self.lex.now) l.fn.at) l.self.line.now l.self.last l.place l.free l.tiles) 1 (2 * (l.from - 1)));
 }
 

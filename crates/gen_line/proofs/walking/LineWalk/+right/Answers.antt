@@ -55,12 +55,12 @@ letter_right-one_right-requires-2 g t c κs within =
 
 pub letter_right-returns-clause-took : goal.letter_right-returns-clause-took
 letter_right-returns-clause-took g t c =
-    let tells = g.T.Taker.tell c.args.self.now.taker.now in
+    let reports = g.T.Taker.report c.args.self.now.taker.now in
     let next : List ℕ → Bool = strings (g.L.PathLex.tail c.args.self.now.lex.now) c.args.next in
     let tile : List (List ℕ) = gives_try_right next c.args.self.now.line.now c.args.place c.args.free.now c.args.tiles.now (2 * c.args.label - 1) in
     let blank : List (List ℕ) = gives_try_right next c.args.self.now.line.now c.args.place c.args.free.now c.args.tiles.now (2 * c.args.label) in
-    took-more (tells (g.T.Taker.made_for c.args.sink.now)) _ tile blank _ _ _ c.in_ok-one_right.ensures.took
-    (took-for tells _ _ _ blank _ _ c.in_ok-one_right.ensures.made_for c.one_right-2.ensures.took)
+    took-more (reports (g.T.Taker.made_for c.args.sink.now)) _ tile blank _ _ _ c.in_ok-one_right.ensures.took
+    (took-for reports _ _ _ blank _ _ c.in_ok-one_right.ensures.made_for c.one_right-2.ensures.took)
 
 -- ---- one cell
 
@@ -120,13 +120,13 @@ right-tries_right-requires g t c κs within =
 pub right-returns-in_ok-offer-in-Free-clause-took : goal.right-returns-in_ok-offer-in-Free-clause-took
 right-returns-in_ok-offer-in-Free-clause-took g t c =
     let inside : c.args.place < length c.args.self.now.line.now = omega arith in
-    let tells = g.T.Taker.tell c.args.self.now.taker.now in
+    let reports = g.T.Taker.report c.args.self.now.taker.now in
     let here : List ℕ → Bool = strings (g.L.PathLex.tail c.args.self.now.lex.now) c.args.at in
     let ending : List (List ℕ) = gives_leaf c.args.at.accepts c.args.tiles.now.fresh in
     let tried : List (List ℕ) = gives_tries_right here c.args.self.now.line.now c.args.place c.in-Free.free c.args.tiles.now in
     took-same _ _ _ _ _ _ (gives_right-free here c.args.self.now.line.now c.args.place _ c.args.tiles.now inside c.in-Free.is)
-    (took-more (tells (g.T.Taker.made_for c.args.sink.now)) _ ending tried _ _ _ c.in_ok-offer-in-Free.ensures.took
-    (took-for tells _ _ _ tried _ _ c.in_ok-offer-in-Free.ensures.made_for c.tries_right.ensures.took))
+    (took-more (reports (g.T.Taker.made_for c.args.sink.now)) _ ending tried _ _ _ c.in_ok-offer-in-Free.ensures.took
+    (took-for reports _ _ _ tried _ _ c.in_ok-offer-in-Free.ensures.made_for c.tries_right.ensures.took))
 
 -- ---- the entries of a cell
 
@@ -153,7 +153,7 @@ tries_right-letter_right-requires g t c κs within =
 
 pub tries_right-loop-on-preserved : goal.tries_right-loop-on-preserved
 tries_right-loop-on-preserved g t c =
-    let tells = g.T.Taker.tell c.args.self.now.taker.now in
+    let reports = g.T.Taker.report c.args.self.now.taker.now in
     let tail = g.L.PathLex.tail c.args.self.now.lex.now in
     let here : List ℕ → Bool = strings tail c.args.at in
     let tried : ℕ → List (List ℕ) = gives_one_right here c.args.self.now.line.now c.args.place c.args.free.now c.args.tiles.now in
@@ -168,12 +168,12 @@ tries_right-loop-on-preserved g t c =
       rest = c.in-Some-next_letter.ensures.rest;
       made_for = c.in_ok-letter_right.ensures.made_for ∙ c.loop-on.invariant.made_for;
       took = labels-took _ tried label c.loop-on.from on _ _ _ goes c.loop-on.invariant.took
-          (all-for tells _ _ _ on _ c.loop-on.invariant.made_for c.in_ok-letter_right.ensures.took);
+          (all-for reports _ _ _ on _ c.loop-on.invariant.made_for c.in_ok-letter_right.ensures.took);
     }
 
 pub tries_right-returns-in_err-letter_right-clause-took : goal.tries_right-returns-in_err-letter_right-clause-took
 tries_right-returns-in_err-letter_right-clause-took g t c =
-    let tells = g.T.Taker.tell c.args.self.now.taker.now in
+    let reports = g.T.Taker.report c.args.self.now.taker.now in
     let tail = g.L.PathLex.tail c.args.self.now.lex.now in
     let here : List ℕ → Bool = strings tail c.args.at in
     let tried : ℕ → List (List ℕ) = gives_one_right here c.args.self.now.line.now c.args.place c.args.free.now c.args.tiles.now in
@@ -186,7 +186,7 @@ tries_right-returns-in_err-letter_right-clause-took g t c =
     took-refused _ _ _ _ _ _ c.from_residual.ensures.1
     (front-same _ _ _ _ _ (tries_right-is here c.args.self.now.line.now c.args.place c.args.free.now c.args.tiles.now)
     (labels-front _ tried label c.loop-on.from on _ _ _ some c.in-Some-next_letter.ensures.label goes c.loop-on.invariant.took
-    (front-for tells _ _ _ on _ c.loop-on.invariant.made_for c.in_err-letter_right.ensures.took)))
+    (front-for reports _ _ _ on _ c.loop-on.invariant.made_for c.in_err-letter_right.ensures.took)))
 
 pub tries_right-returns-clause-took : goal.tries_right-returns-clause-took
 tries_right-returns-clause-took g t c =

@@ -23,19 +23,19 @@ right-requires-clause-can g c =
     let here : List ℕ → Bool = strings tail c.args.at in
     every-for (g.T.Taker.can_take c.args.self.now.taker.now) (g.T.Taker.made_for c.args.sink.now) (g.T.Taker.made_for c.offer.new.sink) _ c.in_ok-offer.ensures.made_for
     (every-right _ _ _ (every-same _ _ _
-    (turn-goes tail here c.in-Some.behind (record { accepts = false; next = c.in-Some.behind.next }) c.args.self.now.line.now c.args.self.now.last c.args.tiles.now c.ends_at.result refl refl c.in-Some.ensures.some c.ends_at.ensures) c.requires.can))
+    (turn-goes tail here c.in-Some.following (record { accepts = false; next = c.in-Some.following.next }) c.args.self.now.line.now c.args.self.now.last c.args.tiles.now c.ends_at.result refl refl c.in-Some.ensures.some c.ends_at.ensures) c.requires.can))
 
 pub returns-in-Some-clause-took : goal.returns-in-Some-clause-took
 returns-in-Some-clause-took g c =
     let tail = g.L.PathLex.tail c.args.self.now.lex.now in
-    let tells = g.T.Taker.tell c.args.self.now.taker.now in
+    let reports = g.T.Taker.report c.args.self.now.taker.now in
     let here : List ℕ → Bool = strings tail c.args.at in
-    let onward : Step g.row.L-Node.Denot = record { accepts = false; next = c.in-Some.behind.next } in
+    let onward : Step g.row.L-Node.Denot = record { accepts = false; next = c.in-Some.following.next } in
     let ended : List (List ℕ) = gives_leaf c.ends_at.result c.args.tiles.now.fresh in
     let gone_on : List (List ℕ) = gives_right (strings tail onward) c.args.self.now.line.now (c.args.self.now.last + 1) c.args.tiles.now in
-    took-same _ _ _ _ _ _ (turn-goes tail here c.in-Some.behind onward c.args.self.now.line.now c.args.self.now.last c.args.tiles.now c.ends_at.result refl refl c.in-Some.ensures.some c.ends_at.ensures)
-    (took-more (tells (g.T.Taker.made_for c.args.sink.now)) (g.T.Taker.items c.args.sink.now) ended gone_on (g.T.Taker.items c.offer.new.sink) _ _ c.in_ok-offer.ensures.took
-    (took-for tells _ _ _ gone_on _ _ c.in_ok-offer.ensures.made_for c.right.ensures.took))
+    took-same _ _ _ _ _ _ (turn-goes tail here c.in-Some.following onward c.args.self.now.line.now c.args.self.now.last c.args.tiles.now c.ends_at.result refl refl c.in-Some.ensures.some c.ends_at.ensures)
+    (took-more (reports (g.T.Taker.made_for c.args.sink.now)) (g.T.Taker.items c.args.sink.now) ended gone_on (g.T.Taker.items c.offer.new.sink) _ _ c.in_ok-offer.ensures.took
+    (took-for reports _ _ _ gone_on _ _ c.in_ok-offer.ensures.made_for c.right.ensures.took))
 
 pub returns-in-None-clause-took : goal.returns-in-None-clause-took
 returns-in-None-clause-took g c =

@@ -5,7 +5,7 @@ use Rattle.gen_line.specs.Walk.{anchor_moves}
 use Rattle.gen_line.proofs.Sinks.{took-refused, all-for, front-for}
 use Rattle.gen_sinks.specs.Sinks.{IsFor}
 use Rattle.gen_moves.specs.declared.starts.Start.{Start}
-use Rattle.gen_moves.specs.Telling.{both_cells}
+use Rattle.gen_moves.specs.Reporting.{both_cells}
 use Rattle.gen_moves.specs.Starts.{IsGood, given_from}
 use Rattle.gen_moves.proofs.Starting.{left_out, starts_more, front_of_starts}
 use Rattle.gen_moves.proofs.generating.Finder.from_starts.Goals as goal

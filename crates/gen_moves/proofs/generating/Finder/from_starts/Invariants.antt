@@ -1,7 +1,7 @@
 use Rattle.std.proofs.Common.{◌≡◌, take}
 use Rattle.std.specs.List.{flat_map}
 use Rattle.gen_line.specs.Walk.{add_all}
-use Rattle.gen_moves.specs.Telling.{both_cells}
+use Rattle.gen_moves.specs.Reporting.{both_cells}
 use Rattle.gen_moves.specs.Starts.{given_from}
 use Rattle.gen_moves.proofs.generating.Finder.from_starts.Given as goal
 

@@ -2,7 +2,7 @@ use Rattle.std.proofs.Common.{◌≡◌}
 use Rattle.lex_file.specs.FileWords.{body_of}
 use Rattle.lex_file.specs.Files.{bytes_of}
 use Rattle.lex_build.specs.Bodies.{IsWhole}
-use Rattle.lex_build.proofs.Converted.{IsConvertedUntil, nodes_left}
+use Rattle.lex_build.proofs.Converted.{IsConvertedUntil, nodes_remaining}
 use Rattle.lex_build.proofs.converting.Conversion.add_nodes.Given as goal
 
 abbrev pub invariant-loop-next : goal.invariant-loop-next
@@ -14,4 +14,4 @@ invariant-loop-next l =
     }
 
 abbrev pub decreases-loop-next : goal.decreases-loop-next
-decreases-loop-next l = nodes_left (bytes_of l.file) l.next
+decreases-loop-next l = nodes_remaining (bytes_of l.file) l.next

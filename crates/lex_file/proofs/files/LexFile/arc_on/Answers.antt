@@ -28,10 +28,10 @@ returns-in-Gad1-clause-arc c =
 pub returns-in-Gad1-clause-rest : goal.returns-in-Gad1-clause-rest
 returns-in-Gad1-clause-rest c =
     both_some c.find_arc.result _ _ _
-    (λ on is behind.
+    (λ on is following.
     let reached = branch_reached c.args.label (node_at (words_in c.body.result.now) c.args.rest) on.arc is in
     rest_of_rest c.args.self.now c.args.node.first c.args.label c.args.rest on.arc.label on.rest c.body.result.now c.in-Gad1.is c.body.ensures c.requires.rest
-    reached (λ above less. behind above (λ arc passed. let below = leb-false c.args.label arc.label passed in omega (arith, below, reached, less)) less))
+    reached (λ above less. following above (λ arc passed. let below = leb-false c.args.label arc.label passed in omega (arith, below, reached, less)) less))
     c.find_arc.ensures.arc c.find_arc.ensures.rest
 
 pub returns-in-Gad1-clause-low : goal.returns-in-Gad1-clause-low

@@ -1,5 +1,5 @@
 use Rattle.std.proofs.Common.{arith}
-use Rattle.lex_file.proofs.Walks.{step_lives, step_behind}
+use Rattle.lex_file.proofs.Walks.{step_lives, step_after}
 use Rattle.lex_file.proofs.files.LexFile.step_over.Goals as goal
 
 pub returns-then-arc-eq0-clause-alive : goal.returns-then-arc-eq0-clause-alive
@@ -9,4 +9,4 @@ returns-then-arc-eq0-clause-alive c = λ none.
 
 pub returns-else-arc-eq0-clause-next : goal.returns-else-arc-eq0-clause-next
 returns-else-arc-eq0-clause-next c =
-    step_behind c.args.self.now c.args.node c.args.arc.label c.args.arc c.requires.node c.requires.arc (omega (arith, c.if-arc-eq0.false))
+    step_after c.args.self.now c.args.node c.args.arc.label c.args.arc c.requires.node c.requires.arc (omega (arith, c.if-arc-eq0.false))

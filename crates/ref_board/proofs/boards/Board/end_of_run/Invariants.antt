@@ -5,7 +5,7 @@ use Rattle.ref_board.proofs.boards.Board.end_of_run.Given as goal
 abbrev pub invariant-loop-end : goal.invariant-loop-end
 invariant-loop-end l =
     record {
-      behind : l.place < l.end;
+      following : l.place < l.end;
       inside : l.end ≤ 15;
       filled : (k : ℕ) → l.place < k → k < l.end → occupied_on l.dir l.self l.line k ≡ true;
     }

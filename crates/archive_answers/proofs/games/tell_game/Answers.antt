@@ -1,9 +1,0 @@
-use Rattle.gcg_read.specs.Records.{most_bytes}
-use Rattle.lex_check.specs.Pairs.{list_in}
-use Rattle.archive_answers.proofs.Telling.{read_on}
-use Rattle.archive_answers.proofs.games.tell_game.Goals as goal
-
-pub returns : goal.returns
-returns g c =
-    read_on most_bytes (g.G.Input.device c.args.game.now) (g.G.Input.device c.open_case.new.game) c.args.asked.now c.args.rules.now (list_in c.args.pair.now) c.args.name c.in_ok-case.case
-    c.in_ok-tell_case.field-0 c.in_ok-case.ensures c.in_ok-tell_case.ensures

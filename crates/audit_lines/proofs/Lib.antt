@@ -1,4 +1,0 @@
-pub mod ReadBack
-pub mod ToldNumbers
-pub mod Answering
-pub mod WrongAudits

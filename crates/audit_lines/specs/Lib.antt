@@ -1,7 +1,0 @@
-pub mod Corrected
-pub mod Standing
-pub mod Told
-pub mod Numbers
-pub mod Lines
-pub mod Answers
-pub mod Wrong

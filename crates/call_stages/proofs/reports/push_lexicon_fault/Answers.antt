@@ -1,5 +1,0 @@
-use Rattle.std.proofs.Common.{rules}
-use Rattle.call_stages.proofs.reports.push_lexicon_fault.Goals as goal
-
-pub returns-in-Extra : goal.returns-in-Extra
-returns-in-Extra c = search rules

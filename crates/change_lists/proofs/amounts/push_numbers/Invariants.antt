@@ -1,7 +1,0 @@
-use Rattle.std.proofs.Common.{◌≡◌, ◌++◌}
-use Rattle.change_lists.specs.Each.{for_next, lists_below}
-use Rattle.change_lists.specs.Amounts.{other_number}
-use Rattle.change_lists.proofs.amounts.push_numbers.Given as goal
-
-abbrev pub invariant-loop-tiles : goal.invariant-loop-tiles
-invariant-loop-tiles l = l.slips.items ≡ l.initial.slips.items ++ lists_below (for_next (other_number l.written)) l.tiles

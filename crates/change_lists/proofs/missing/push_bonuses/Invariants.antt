@@ -1,7 +1,0 @@
-use Rattle.std.proofs.Common.{◌≡◌, ◌++◌}
-use Rattle.change_lists.specs.Each.{for_next, lists_below}
-use Rattle.change_lists.specs.MissingLines.{missing_bonus}
-use Rattle.change_lists.proofs.missing.push_bonuses.Given as goal
-
-abbrev pub invariant-loop-words : goal.invariant-loop-words
-invariant-loop-words l = l.slips.items ≡ l.initial.slips.items ++ lists_below (for_next (missing_bonus l.rules l.player)) l.words

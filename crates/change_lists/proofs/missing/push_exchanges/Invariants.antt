@@ -1,7 +1,0 @@
-use Rattle.std.proofs.Common.{◌≡◌, ◌++◌}
-use Rattle.change_lists.specs.Each.{for_next, lists_below}
-use Rattle.change_lists.specs.MissingLines.{missing_exchange}
-use Rattle.change_lists.proofs.missing.push_exchanges.Given as goal
-
-abbrev pub invariant-loop-tiles : goal.invariant-loop-tiles
-invariant-loop-tiles l = l.slips.items ≡ l.initial.slips.items ++ lists_below (for_next (missing_exchange l.player)) l.tiles

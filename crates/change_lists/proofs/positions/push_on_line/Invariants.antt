@@ -1,7 +1,0 @@
-use Rattle.std.proofs.Common.{◌≡◌, ◌++◌}
-use Rattle.change_lists.specs.Each.{lists_below}
-use Rattle.change_lists.specs.Positions.{elsewhere}
-use Rattle.change_lists.proofs.positions.push_on_line.Given as goal
-
-abbrev pub invariant-loop-place : goal.invariant-loop-place
-invariant-loop-place l = l.slips.items ≡ l.initial.slips.items ++ lists_below (elsewhere l.dir l.at) l.place

@@ -1,6 +1,0 @@
-use Rattle.std.proofs.Common.{◌≡◌, drop}
-use Rattle.change_lists.specs.Rests.{off_board}
-use Rattle.change_lists.proofs.rests.off_board.Given as goal
-
-abbrev pub invariant-loop-cell : goal.invariant-loop-cell
-invariant-loop-cell l = off_board l.rest (drop l.cell-index l.cells) ≡ off_board l.counts l.cells

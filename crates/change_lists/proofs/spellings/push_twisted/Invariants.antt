@@ -1,7 +1,0 @@
-use Rattle.std.proofs.Common.{◌≡◌, ◌++◌}
-use Rattle.change_lists.specs.Each.{lists_below}
-use Rattle.change_lists.specs.Spellings.{twisted_at}
-use Rattle.change_lists.proofs.spellings.push_twisted.Given as goal
-
-abbrev pub invariant-loop-place : goal.invariant-loop-place
-invariant-loop-place l = l.slips.items ≡ l.initial.slips.items ++ lists_below (twisted_at l.word) l.place

@@ -1,0 +1,82 @@
+//! `compare`: two players' sheets of one game.
+
+use crate::advice::{advise_first, advise_second};
+use crate::answering::{hint, stopped};
+use crate::forms::Form;
+use crate::kept_files::KeptFile;
+use crate::reports::{name_beside, report_beside};
+use cli_args::GameFiles;
+use cli_exits::{Exit, Trouble};
+use cli_files::{
+    Inputs, SheetFile, Source, UsedOutput, advise_unread, open_inputs, open_sheet, report_others,
+    used_source,
+};
+use reply_calls::{Ended, TwoSheets, answer_sheets};
+use std::rt::Runtime;
+
+/// Says on standard error what helps beside the answer on two sheets.
+fn help<'a, R: Runtime + AllocGlobal>(
+    rt: &R,
+    files: GameFiles<'a>,
+    second: &str,
+    form: Form,
+    inputs: &Inputs<R::File, Source<R>>,
+    sheets: &TwoSheets<SheetFile<Source<R>>>,
+    ended: &Ended,
+) {
+    if ended.refused.is_some() {
+        if form == Form::Words {
+            hint(rt, files.pair, inputs, ended);
+        }
+    } else if form == Form::Object {
+        advise_unread(rt, second, sheets.second.inner().front());
+        advise_unread(rt, files.game, sheets.first.inner().front());
+    } else {
+        advise_second(rt, second, &sheets.first, &sheets.second);
+        advise_first(rt, files.game, &sheets.first);
+    }
+}
+
+/// Opens the files of two sheets, makes the call, and says what helps beside the answer.
+pub(crate) fn compare<'a, R: Runtime + AllocGlobal>(
+    rt: &R,
+    files: GameFiles<'a>,
+    second: &'a str,
+    out: Option<&'a str>,
+    form: Form,
+) -> Result<Exit, Trouble<'a>> {
+    let mut inputs = open_inputs(rt, files.rules, files.pair, false)?;
+    let mut sheets = TwoSheets {
+        first: open_sheet(rt, files.game)?,
+        second: open_sheet(rt, second)?,
+    };
+    let mut kept = KeptFile::new(rt, out);
+    let mut report = report_beside(rt, out);
+    let outcome = answer_sheets(
+        rt.alloc(),
+        out.is_some(),
+        &mut inputs.rules,
+        &mut inputs.words,
+        &mut inputs.lexicon,
+        &mut sheets,
+        &form,
+        &mut kept,
+        &mut report,
+    );
+    report_others(rt, files.pair.words.name, &inputs.words);
+    match outcome {
+        Ok(ended) => {
+            help(rt, files, second, form, &inputs, &sheets, &ended);
+            Ok(ended.exit)
+        }
+        Err(fault) => {
+            let [rules, words, lexicon] = inputs.used(files.rules, files.pair);
+            let one = used_source(files.game, &sheets.first);
+            let other = used_source(second, &sheets.second);
+            let writer = report.into_inner();
+            let written = UsedOutput::new(name_beside(out), &writer);
+            let used = [rules, words, lexicon, one, other];
+            Err(stopped(kept.trouble(), fault, &used, written))
+        }
+    }
+}

@@ -1,0 +1,4 @@
+pub mod Reporting
+pub mod Responses
+pub mod AnswerLines
+pub mod Ready

@@ -1,0 +1,119 @@
+//! What is said of totals that differ, and of who won.
+
+use compare_choices::{LastTotals, Results};
+use explain_parts::{Part, say};
+use game_corrections::Standing;
+use gcg_read::{Players, Points, Seat};
+use std::alloc::AllocError;
+
+/// Appends a total, if there is one.
+fn push_points(text: &mut Vec<u8>, points: Option<Points>) -> Result<(), AllocError> {
+    match points {
+        Some(points) => say(text, &[Part::Points(points.value())]),
+        None => text.extend_from_slice(b"none"),
+    }
+}
+
+/// Appends the last totals of a player, if they are not all the same.
+fn push_totals(text: &mut Vec<u8>, nick: &[u8], totals: &LastTotals) -> Result<(), AllocError> {
+    if totals.first == totals.second && totals.first == totals.right {
+        return Ok(());
+    }
+    say(
+        text,
+        &[Part::Say("total of "), Part::Raw(nick), Part::Say(": ")],
+    )?;
+    push_points(text, totals.first)?;
+    text.extend_from_slice(b" | ")?;
+    push_points(text, totals.second)?;
+    text.extend_from_slice(b": the rules give ")?;
+    push_points(text, totals.right)?;
+    text.extend_from_slice(b"\n")
+}
+
+/// How a player is named: the nickname, or `the other player` if there is none.
+fn name_of(players: &Players, seat: Seat) -> &[u8] {
+    let nick = players.of(seat).nick.as_bytes();
+    if nick.is_empty() {
+        b"the other player"
+    } else {
+        nick
+    }
+}
+
+/// Appends who has more points.
+fn push_standing(
+    text: &mut Vec<u8>,
+    players: &Players,
+    standing: Standing,
+    complete: bool,
+) -> Result<(), AllocError> {
+    match standing {
+        Standing::Even => say(text, &[Part::Say("both have the same total")]),
+        Standing::Ahead(seat, by) => say(
+            text,
+            &[
+                Part::Raw(name_of(players, seat)),
+                Part::Say(if complete {
+                    " won by "
+                } else {
+                    " is ahead by "
+                }),
+                Part::Points(by),
+            ],
+        ),
+    }
+}
+
+/// Appends who has more points by a sheet, if that is not what the merged record says.
+fn push_other_standing(
+    text: &mut Vec<u8>,
+    players: &Players,
+    sheet: &'static str,
+    standing: Standing,
+    right: Standing,
+    complete: bool,
+) -> Result<(), AllocError> {
+    if standing == right {
+        return Ok(());
+    }
+    say(text, &[Part::Say("; by "), Part::Say(sheet)])?;
+    push_standing(text, players, standing, complete)
+}
+
+/// Appends the last totals that differ, and who won by the merged record, and by a sheet that says otherwise.
+pub(crate) fn push_results(
+    text: &mut Vec<u8>,
+    players: &Players,
+    results: &Results,
+    complete: bool,
+) -> Result<(), AllocError> {
+    push_totals(
+        text,
+        players.of(Seat::First).nick.as_bytes(),
+        &results.of_first,
+    )?;
+    push_totals(
+        text,
+        players.of(Seat::Second).nick.as_bytes(),
+        &results.of_second,
+    )?;
+    push_standing(text, players, results.right, complete)?;
+    push_other_standing(
+        text,
+        players,
+        "the first sheet ",
+        results.first,
+        results.right,
+        complete,
+    )?;
+    push_other_standing(
+        text,
+        players,
+        "the second sheet ",
+        results.second,
+        results.right,
+        complete,
+    )?;
+    text.extend_from_slice(b"\n")
+}

@@ -1,6 +1,0 @@
-use Rattle.std.proofs.Common.{ℕ, ◌<◌}
-use Rattle.comparison_answers.specs.Places.{IsPairAt}
-use Rattle.comparison_answers.proofs.places.pair_of.Given as goal
-
-abbrev pub invariant-loop-index : goal.invariant-loop-index
-invariant-loop-index l = record { none : (k : ℕ) → k < l.index → IsPairAt l.sheets l.choice l.place k → ⊥ }

@@ -1,7 +1,0 @@
-use Rattle.std.proofs.Common.{◌≡◌, map}
-use Rattle.json_trees.specs.Trees.{view}
-use Rattle.comparison_json.specs.Choices.{lines_to}
-use Rattle.comparison_json.proofs.choices.lines_array.Given as goal
-
-abbrev pub invariant-loop-number : goal.invariant-loop-number
-invariant-loop-number l = map view l.trees.items ≡ lines_to l.counts l.choice l.number

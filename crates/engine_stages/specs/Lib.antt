@@ -1,0 +1,9 @@
+pub mod Reporting
+pub mod Reports
+pub mod InputFaults
+pub mod Lexicons
+pub mod Reading
+pub mod laws
+pub mod Stages
+pub mod Sources
+pub mod Runs

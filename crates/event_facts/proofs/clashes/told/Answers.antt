@@ -1,7 +1,0 @@
-use Rattle.event_facts.proofs.ClashLaws.{parts_next}
-use Rattle.event_facts.proofs.clashes.told.Goals as goal
-
-pub loop-place-preserved : goal.loop-place-preserved
-loop-place-preserved c =
-    parts_next c.loop-place.less.items c.args.steps.now c.push.new.self.items c.loop-place.place c.telling.result c.index-steps-place.result c.loop-place.invariant
-    c.loop-place-test.true c.index-steps-place.is c.telling.ensures c.in_ok-push.ensures.items

@@ -1,6 +1,0 @@
-use Rattle.std.proofs.Common.{◌≡◌, ◌++◌, drop}
-use Rattle.event_facts.specs.Racks.{kind_lines}
-use Rattle.event_facts.proofs.racks.kind_lines.Given as goal
-
-abbrev pub invariant-loop-k : goal.invariant-loop-k
-invariant-loop-k l = kind_lines l.kind l.past ≡ l.lines.items ++ kind_lines l.kind (drop l.k l.past)

@@ -1,7 +1,0 @@
-use Rattle.std.proofs.Common.{◌≡◌, take}
-use Rattle.std.specs.Prelude.{filter}
-use Rattle.event_facts.specs.Elsewhere.{is_listed_at}
-use Rattle.event_facts.proofs.scores.listed_spots.Given as goal
-
-abbrev pub invariant-loop-spot : goal.invariant-loop-spot
-invariant-loop-spot l = l.listed.items ≡ filter (is_listed_at l.board l.list l.word) (take l.spot-index l.spots)

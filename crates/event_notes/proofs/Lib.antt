@@ -1,2 +1,0 @@
-pub mod BestLaws
-pub mod Tellings

@@ -1,3 +1,0 @@
-pub mod Bests
-pub mod Tellings
-pub mod Unlisted

@@ -1,8 +1,0 @@
-//! A law about the value of a best play. The function does nothing: its contract is the law.
-ghost use Rattle.event_notes.specs.Tellings.{BestsAreTold};
-
-/// The value of a best play has the text that the line of its event has in the report of `judge`, by the state before the event.
-#[tactic(auto, using(crate::proofs::Tellings::tells_best))]
-pub fn law_of_bests()
-    ensures { BestsAreTold }
-{}

@@ -1,0 +1,12 @@
+pub mod Reporting
+pub mod Plays
+pub mod Because
+pub mod Beginnings
+pub mod FaultFactLaws
+pub mod Numbers
+pub mod Places
+pub mod RackLaws
+pub mod WholeLaws
+pub mod ReadLaws
+pub mod OrderLaws
+pub mod ClashLaws

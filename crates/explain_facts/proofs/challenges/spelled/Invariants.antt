@@ -1,0 +1,7 @@
+use Rattle.std.proofs.Common.{◌≡◌, take}
+use Rattle.ref_play.specs.Words.{items_of}
+use Rattle.explain_facts.specs.Spelling.{letters_in}
+use Rattle.explain_facts.proofs.challenges.spelled.Given as goal
+
+abbrev pub invariant-loop-word : goal.invariant-loop-word
+invariant-loop-word l = letters_in l.kept.items ≡ items_of (take l.word-index l.words)

@@ -1,0 +1,3 @@
+pub mod Bests
+pub mod Reportings
+pub mod Unlisted

@@ -1,5 +1,0 @@
-use Rattle.game_facts.specs.Texts.{FitsTo}
-use Rattle.game_facts.proofs.texts.first_misfit.Given as goal
-
-abbrev pub invariant-loop-k : goal.invariant-loop-k
-invariant-loop-k l = FitsTo l.board l.dir l.at l.word l.k

@@ -1,6 +1,0 @@
-use Rattle.std.proofs.Common.{◌≡◌, reverse, take}
-use Rattle.game_facts.specs.Totals.{latest_with}
-use Rattle.game_facts.proofs.totals.latest_with.Given as goal
-
-abbrev pub invariant-loop-event : goal.invariant-loop-event
-invariant-loop-event l = l.found ≡ latest_with l.player l.score (reverse (take l.event-index l.events))

@@ -1,6 +1,0 @@
-use Rattle.std.proofs.Common.{◌≡◌, map, take}
-use Rattle.game_facts.specs.Words.{word_sum, sum_in}
-use Rattle.game_facts.proofs.words.words_on.Given as goal
-
-abbrev pub invariant-loop-run : goal.invariant-loop-run
-invariant-loop-run l = map sum_in l.words.items ≡ map (word_sum l.rules l.after l.tiles) (take l.run-index l.runs)

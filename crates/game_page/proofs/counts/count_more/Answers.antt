@@ -1,5 +1,0 @@
-use Rattle.game_page.proofs.Counting.{counted_more}
-use Rattle.game_page.proofs.counts.count_more.Goals as goal
-
-pub returns : goal.returns
-returns c = λ answers are room. counted_more answers c.args.counts.now c.one_more.result c.args.answer are (c.one_more.ensures room)

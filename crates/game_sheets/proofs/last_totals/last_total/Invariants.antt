@@ -1,9 +1,0 @@
-use Rattle.std.proofs.Common.{◌≡◌, length}
-use Rattle.game_sheets.specs.LastTotals.{last_total}
-use Rattle.game_sheets.proofs.last_totals.last_total.Given as goal
-
-abbrev pub invariant-loop-event : goal.invariant-loop-event
-invariant-loop-event l = last_total l.player l.left ≡ last_total l.player l.events
-
-abbrev pub decreases-loop-event : goal.decreases-loop-event
-decreases-loop-event l = length l.left

@@ -1,7 +1,0 @@
-use Rattle.std.proofs.Common.{◌≡◌, drop}
-use Rattle.std.specs.List.{list_any}
-use Rattle.game_sheets.specs.WrongNumbers.{is_sum_of}
-use Rattle.game_sheets.proofs.told_sums.has_sum_of.Given as goal
-
-abbrev pub invariant-loop-number : goal.invariant-loop-number
-invariant-loop-number l = list_any (is_sum_of l.line) (drop l.number-index l.numbers) ≡ list_any (is_sum_of l.line) l.numbers

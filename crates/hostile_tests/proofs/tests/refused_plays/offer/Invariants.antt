@@ -1,4 +1,0 @@
-use Rattle.hostile_tests.proofs.tests.refused_plays.offer.Given as goal
-
-abbrev pub ghost-generate : goal.ghost-generate
-ghost-generate g a = g.words

@@ -1,4 +1,0 @@
-use Rattle.hostile_tests.proofs.tests.refused_plays.offer_by.Given as goal
-
-abbrev pub ghost-offer : goal.ghost-offer
-ghost-offer g a = a.list.now

@@ -1,6 +1,0 @@
-use Rattle.lex_check.specs.Pairs.{list_in}
-use Rattle.game_notes.specs.Following.{Follows}
-use Rattle.known_bests.proofs.besides.lay_all.Given as goal
-
-abbrev pub invariant-loop-place : goal.invariant-loop-place
-invariant-loop-place l = Follows l.rules (list_in l.pair) l.follow

@@ -1,5 +1,0 @@
-use Rattle.known_bests.proofs.TableLaws.{nothing_known}
-use Rattle.known_bests.proofs.known.KnownBests.new.Goals as goal
-
-pub returns : goal.returns
-returns c = λ by list. nothing_known by list _ c.loop.invariant

@@ -1,6 +1,0 @@
-use Rattle.std.proofs.Common.{◌≡◌, All, Option, None}
-use Rattle.known_bests.specs.declared.known.KnownBest.{KnownBest}
-use Rattle.known_bests.proofs.known.KnownBests.new.Given as goal
-
-abbrev pub invariant-loop : goal.invariant-loop
-invariant-loop l = All (λ (place : Option KnownBest). place ≡ None) l.empty.items

@@ -1,5 +1,0 @@
-use Rattle.lex_list.proofs.Rows.{told_behind}
-use Rattle.lex_list.proofs.word_sets.is_behind.Goals as goal
-
-pub returns-in-Some : goal.returns-in-Some
-returns-in-Some c = told_behind c.args.row.now c.in-Some.last.now c.args.word.now c.lt.result c.requires c.in-Some.ensures.value c.lt.ensures

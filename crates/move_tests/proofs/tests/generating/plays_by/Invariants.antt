@@ -1,4 +1,0 @@
-use Rattle.move_tests.proofs.tests.generating.plays_by.Given as goal
-
-abbrev pub ghost-plays_of : goal.ghost-plays_of
-ghost-plays_of g a = a.list.now

@@ -1,7 +1,0 @@
-use Rattle.move_tests.proofs.tests.generating.plays_of.Given as goal
-
-abbrev pub ghost-generate : goal.ghost-generate
-ghost-generate g a = g.words
-
-abbrev pub ghost-generate-2 : goal.ghost-generate-2
-ghost-generate-2 g a = g.words

@@ -1,5 +1,0 @@
-use Rattle.play_changes.specs.PlayChanges.{ArePlayChanges}
-use Rattle.play_changes.proofs.finding.plays_for.Given as goal
-
-abbrev pub invariant-loop-place : goal.invariant-loop-place
-invariant-loop-place l = ArePlayChanges l.events l.walk l.changes.items

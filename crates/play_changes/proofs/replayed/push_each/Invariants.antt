@@ -1,5 +1,0 @@
-use Rattle.play_changes.specs.PlayChanges.{ArePlayChanges}
-use Rattle.play_changes.proofs.replayed.push_each.Given as goal
-
-abbrev pub invariant-loop-play : goal.invariant-loop-play
-invariant-loop-play l = ArePlayChanges l.events l.walk l.changes.items

@@ -1,4 +1,0 @@
-use Rattle.play_changes.proofs.searching.plays_by_list.Given as goal
-
-abbrev pub ghost-plays_by_words : goal.ghost-plays_by_words
-ghost-plays_by_words g a = a.list.now

@@ -1,4 +1,0 @@
-use Rattle.play_changes.proofs.searching.plays_by_words.Given as goal
-
-abbrev pub ghost-generate : goal.ghost-generate
-ghost-generate g a = g.words

@@ -1,5 +1,0 @@
-use Rattle.std.proofs.Common.{◌≡◌, ◌++◌, take}
-use Rattle.record_changes.proofs.splices.push_all.Given as goal
-
-abbrev pub invariant-loop-symbol : goal.invariant-loop-symbol
-invariant-loop-symbol l = l.symbols.items ≡ l.initial.symbols.items ++ take l.symbol-index l.more

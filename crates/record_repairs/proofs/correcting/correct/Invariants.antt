@@ -1,5 +1,0 @@
-use Rattle.record_repairs.proofs.Trials.{GoesTo}
-use Rattle.record_repairs.proofs.correcting.correct.Given as goal
-
-abbrev pub invariant-loop-place : goal.invariant-loop-place
-invariant-loop-place l = GoesTo l.rules l.list l.initial.events l.events 0 l.place l.machine

@@ -1,7 +1,0 @@
-use Rattle.std.proofs.Common.{◌≡◌, None}
-use Rattle.std.specs.List.{flat_map, range_with_len}
-use Rattle.game_sheets.specs.WrongNumbers.{wrong_at}
-use Rattle.record_repairs.proofs.remaining.wrong_lines.Given as goal
-
-abbrev pub invariant-loop-place : goal.invariant-loop-place
-invariant-loop-place l = record { so_far : l.wrong.items ≡ flat_map (wrong_at None l.sheet l.right) (range_with_len 0 l.place) }

@@ -1,0 +1,6 @@
+use Rattle.repair_single.specs.Repairs.{SameEvent}
+use Rattle.repair_single.proofs.SameLists.{AreAlikeTo}
+use Rattle.repair_single.proofs.comparing.same_record.Given as goal
+
+abbrev pub invariant-loop-place : goal.invariant-loop-place
+invariant-loop-place l = record { alike : AreAlikeTo SameEvent l.events l.others l.place }

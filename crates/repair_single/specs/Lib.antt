@@ -1,0 +1,15 @@
+pub mod OnSheet
+pub mod Sums
+pub mod Remaining
+pub mod Counting
+pub mod Costs
+pub mod Trying
+pub mod FirstSteps
+pub mod RackStops
+pub mod Listing
+pub mod Repairs
+pub mod Candidates
+pub mod Settling
+pub mod Reporting
+pub mod Laws
+pub mod Nearby

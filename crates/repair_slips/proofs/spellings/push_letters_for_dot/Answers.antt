@@ -1,0 +1,11 @@
+use Rattle.repair_slips.specs.Each.{for_letter}
+use Rattle.repair_slips.specs.Spellings.{letter_for_dot}
+use Rattle.repair_slips.proofs.Series.{begun, added}
+use Rattle.repair_slips.proofs.spellings.push_letters_for_dot.Goals as goal
+
+pub loop-number-init : goal.loop-number-init
+loop-number-init c = begun (for_letter (letter_for_dot c.args.place)) c.args.slips.now.items
+
+pub loop-number-preserved : goal.loop-number-preserved
+loop-number-preserved c =
+    added (for_letter (letter_for_dot c.args.place)) c.loop-number.number c.args.slips.now.items c.loop-number.slips.items c.push_letter_for_dot.new.slips.items c.loop-number.invariant c.in_ok-push_letter_for_dot.ensures

@@ -1,0 +1,10 @@
+use Rattle.repair_slips.specs.Spellings.{twisted_at}
+use Rattle.repair_slips.proofs.Series.{begun, added}
+use Rattle.repair_slips.proofs.spellings.push_twisted.Goals as goal
+
+pub loop-place-init : goal.loop-place-init
+loop-place-init c = begun (twisted_at c.args.word.now) c.args.slips.now.items
+
+pub loop-place-preserved : goal.loop-place-preserved
+loop-place-preserved c =
+    added (twisted_at c.args.word.now) c.loop-place.place c.args.slips.now.items c.loop-place.slips.items c.push_twisted_at.new.slips.items c.loop-place.invariant c.in_ok-push_twisted_at.ensures

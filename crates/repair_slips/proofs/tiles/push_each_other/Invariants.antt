@@ -1,0 +1,8 @@
+use Rattle.std.proofs.Common.{◌≡◌, ◌++◌}
+use Rattle.repair_slips.specs.Each.{lists_below}
+use Rattle.repair_slips.specs.Each.{for_kind}
+use Rattle.repair_slips.specs.Tiles.{other_tile}
+use Rattle.repair_slips.proofs.tiles.push_each_other.Given as goal
+
+abbrev pub invariant-loop-number : goal.invariant-loop-number
+invariant-loop-number l = l.slips.items ≡ l.initial.slips.items ++ lists_below (for_kind (other_tile l.of l.tile)) l.number

@@ -1,5 +1,0 @@
-use Rattle.repaired_choices.specs.Least.{IsLeastTo}
-use Rattle.repaired_choices.proofs.best.least_of.Given as goal
-
-abbrev pub invariant-loop-index : goal.invariant-loop-index
-invariant-loop-index l = record { least : IsLeastTo l.tried l.index l.least }

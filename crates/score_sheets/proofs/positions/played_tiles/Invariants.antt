@@ -1,6 +1,0 @@
-use Rattle.std.proofs.Common.{◌≡◌}
-use Rattle.score_sheets.specs.Positions.{played_tiles}
-use Rattle.score_sheets.proofs.positions.played_tiles.Given as goal
-
-abbrev pub invariant-loop-k : goal.invariant-loop-k
-invariant-loop-k l = l.tiles.items ≡ played_tiles l.picture l.at l.dir l.k

@@ -1,7 +1,0 @@
-use Rattle.std.proofs.Common.{◌≡◌}
-use Rattle.score_sheets.specs.Gains.{gains_to}
-use Rattle.score_sheets.specs.Sums.{best_of}
-use Rattle.score_sheets.proofs.sums.gains_of.Given as goal
-
-abbrev pub invariant-loop-place : goal.invariant-loop-place
-invariant-loop-place l = l.gains ≡ gains_to l.player l.events (best_of l.rows) l.place

@@ -1,6 +1,0 @@
-use Rattle.std.proofs.Common.{◌≡◌}
-use Rattle.score_sheets.specs.Unders.{cells_from}
-use Rattle.score_sheets.proofs.unders.cells_from.Given as goal
-
-abbrev pub invariant-loop-k : goal.invariant-loop-k
-invariant-loop-k l = l.cells.items ≡ cells_from l.board l.at l.dir l.k

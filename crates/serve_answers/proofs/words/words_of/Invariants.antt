@@ -1,6 +1,0 @@
-use Rattle.std.proofs.Common.{take}
-use Rattle.serve_answers.specs.Words.{AreWordsOf}
-use Rattle.serve_answers.proofs.words.words_of.Given as goal
-
-abbrev pub invariant-loop-text : goal.invariant-loop-text
-invariant-loop-text l = AreWordsOf (take l.text-index l.texts) l.words.items

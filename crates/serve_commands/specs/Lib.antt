@@ -1,4 +1,0 @@
-pub mod Telling
-pub mod Responses
-pub mod AnswerLines
-pub mod Ready

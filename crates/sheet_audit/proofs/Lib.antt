@@ -1,0 +1,4 @@
+pub mod ReadBack
+pub mod ReportedNumbers
+pub mod Answering
+pub mod WrongAudits

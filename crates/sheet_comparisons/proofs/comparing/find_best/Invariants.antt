@@ -1,5 +1,0 @@
-use Rattle.sheet_comparisons.specs.Finds.{IsFoundTo}
-use Rattle.sheet_comparisons.proofs.comparing.find_best.Given as goal
-
-abbrev pub invariant-loop-choice : goal.invariant-loop-choice
-invariant-loop-choice l = record { found : IsFoundTo l.rules l.list l.sheets l.choice l.found }

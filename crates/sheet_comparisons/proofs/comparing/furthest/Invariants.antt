@@ -1,5 +1,0 @@
-use Rattle.sheet_comparisons.specs.Comparisons.{IsFurthestTo}
-use Rattle.sheet_comparisons.proofs.comparing.furthest.Given as goal
-
-abbrev pub invariant-loop-choice : goal.invariant-loop-choice
-invariant-loop-choice l = record { stop : IsFurthestTo l.rules l.list l.sheets l.choice l.found }

@@ -1,6 +1,0 @@
-use Rattle.std.proofs.Common.{◌≡◌, ◌+◌, ◌≤◌, drop}
-use Rattle.sheet_comparisons.specs.Sheets.{racks_of}
-use Rattle.sheet_comparisons.proofs.sheets.racks_of.Given as goal
-
-abbrev pub invariant-loop-event : goal.invariant-loop-event
-invariant-loop-event l = record { so_far : l.many + racks_of l.player (drop l.event-index l.events) ≡ racks_of l.player l.events; few : l.many ≤ l.event-index }

@@ -1,0 +1,11 @@
+use Rattle.std.proofs.Common.{◌≡◌, ℕ, ◌<◌, false, length}
+use Rattle.std.specs.Prelude.{slice_index_or}
+use Rattle.sheet_scores.specs.Pictures.{is_new}
+use Rattle.sheet_scores.proofs.pictures.picture_after.Given as goal
+
+abbrev pub invariant-loop-number : goal.invariant-loop-number
+invariant-loop-number l =
+    record {
+      size : length l.marked ≡ 225;
+      each : (square : ℕ) → square < l.number → slice_index_or l.marked square false ≡ is_new l.before l.after square;
+    }

@@ -1,6 +1,0 @@
-use Rattle.std.proofs.Common.{rules}
-use Rattle.sheet_slips.proofs.Read.{no_events}
-use Rattle.sheet_slips.proofs.readings.events_in.Goals as goal
-
-pub returns : goal.returns
-returns c = no_events c.args.text.now c.in-Err.fault (search rules) (search rules)

@@ -1,6 +1,0 @@
-use Rattle.std.proofs.Common.{◌≡◌}
-use Rattle.terminals.specs.Showing.{shown_to}
-use Rattle.terminals.proofs.showing.shown.Given as goal
-
-abbrev pub invariant-loop-place : goal.invariant-loop-place
-invariant-loop-place l = l.out.items ≡ shown_to l.bytes l.place

@@ -1,7 +1,0 @@
-use Rattle.std.proofs.Common.{◌≡◌, true, take}
-use Rattle.std.specs.List.{list_all}
-use Rattle.word_rulings.specs.Rulings.{is_acceptable}
-use Rattle.word_rulings.proofs.rulings.all_words.Given as goal
-
-abbrev pub invariant-loop-word : goal.invariant-loop-word
-invariant-loop-word l = list_all (is_acceptable l.list) (take l.word-index l.words) ≡ true
