@@ -1,5 +1,5 @@
-//! The commands that the program knows: a row for each, with what help says of it, its arguments, and what it asks for. A command is added by its row
-//! here; it compiles once its case has an arm in `tasks.rt`, if it is about the game of a record, or in `requests.rt`.
+//! The commands that the program knows: a row for each, with what help says of it, its arguments, and what it asks for. A row
+//! compiles once its case has an arm in `tasks.rt`, if it is about the game of a record, or in `requests.rt`; docs/CHANGING.md has the rest of a command.
 
 use crate::arguments::{Argument, Form};
 use clap::Command;

@@ -1,4 +1,4 @@
-//! What standard error says beside an answer.
+//! What standard error says in addition to an answer.
 
 use cli_exits::Exit;
 use cli_files::{

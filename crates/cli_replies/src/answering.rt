@@ -29,7 +29,7 @@ pub(crate) fn hint<'a, R: Runtime + AllocGlobal>(
     }
 }
 
-/// Says on standard error what helps beside the answer on a sheet.
+/// Says on standard error what helps in addition to the answer on a sheet.
 fn help<'a, R: Runtime + AllocGlobal>(
     rt: &R,
     files: GameFiles<'a>,
@@ -61,7 +61,7 @@ pub(crate) fn stopped<'a>(
     }
 }
 
-/// Opens the files of a sheet, makes the call, and says what helps beside the answer.
+/// Opens the files of a sheet, makes the call, and says what helps in addition to the answer.
 fn answer_one<'a, R: Runtime + AllocGlobal>(
     rt: &R,
     files: GameFiles<'a>,

@@ -14,7 +14,7 @@ use cli_files::{
 use reply_calls::{Ended, TwoSheets, answer_sheets};
 use std::rt::Runtime;
 
-/// Says on standard error what helps beside the answer on two sheets.
+/// Says on standard error what helps in addition to the answer on two sheets.
 fn help<'a, R: Runtime + AllocGlobal>(
     rt: &R,
     files: GameFiles<'a>,
@@ -37,7 +37,7 @@ fn help<'a, R: Runtime + AllocGlobal>(
     }
 }
 
-/// Opens the files of two sheets, makes the call, and says what helps beside the answer.
+/// Opens the files of two sheets, makes the call, and says what helps in addition to the answer.
 pub(crate) fn compare<'a, R: Runtime + AllocGlobal>(
     rt: &R,
     files: GameFiles<'a>,

@@ -1,7 +1,7 @@
-//! The commands that answer with a reply: `explain`, `audit`, `repair`, `annotate`, `page` and `compare`, in words or as a JSON object; `word`; and those
-//! that have an object besides the text of a call: `judge`, `top`, `board` and `check`.
+//! The commands that answer with a reply: `explain`, `audit`, `fill`, `repair`, `annotate`, `page` and `compare`, in words or as a JSON object; `word`; and
+//! those that have an object in addition to the text of a call: `judge`, `top`, `board` and `check`.
 //!
-//! They open the files that are named, make a call of `reply_calls`, and say on standard error what helps beside the answer.
+//! They open the files that are named, make a call of `reply_calls`, and say on standard error what helps in addition to the answer.
 #![tactic(auto)]
 
 mod advice;

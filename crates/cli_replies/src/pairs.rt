@@ -37,7 +37,7 @@ fn refuse_word<'a, R: Runtime + AllocGlobal>(rt: &R, text: &str) -> Result<Exit,
     Ok(exit_of_reply(&reply))
 }
 
-/// Opens a word list and its lexicon, makes the call, and says what helps beside the answer.
+/// Opens a word list and its lexicon, makes the call, and says what helps in addition to the answer.
 fn answer_pair<'a, R: Runtime + AllocGlobal>(
     rt: &R,
     pair: PairFiles<'a>,

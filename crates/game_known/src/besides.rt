@@ -1,4 +1,4 @@
-//! The best plays of a game, event by event: a board with its cross-sets is kept beside the game, and is updated only if a search needs it.
+//! The best plays of a game, event by event: a board with its cross-sets is kept while one goes through the game, and is updated only if a search needs it.
 ghost use Rattle.std.specs.Prelude.{◌≡◌, ◌<◌, ◌≤◌, length};
 ghost use Rattle.game_turns.specs.Machines.{state_of};
 ghost use Rattle.lex_check.specs.Pairs.{list_in};
@@ -51,7 +51,7 @@ fn lay_all(
     }
 }
 
-/// A board with its cross-sets that is kept beside a game: the plays of its first events are laid on it.
+/// A board with its cross-sets that is kept while one goes through a game: the plays of its first events are laid on it.
 #[derive(Drop)]
 pub struct Beside {
     follow: Follow,

@@ -1,4 +1,4 @@
-//! The page of a game: one HTML file with its verdict, its sheet, and the board after each event.
+//! The page of a game: one HTML file with its verdict, its sheet, and the board after each event; and the index of the pages of an archive.
 //!
 //! [`push_page`] writes it from what `page_answers` has in a value, by way of a [`Shown`], with the sentences that its caller makes of it. A page has
 //! no script and loads nothing: links choose the row whose board is in view. It grows only by the pieces of [`page_pieces`], so what it has of a record

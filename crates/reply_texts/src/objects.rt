@@ -181,7 +181,7 @@ pub fn as_object(alloc: Global, reply: &Reply) -> Result<Body, AllocError>
     }
 }
 
-/// What a command writes of an answer to a program: its object and an LF, with its text beside it; or its text alone.
+/// What a command writes of an answer to a program: its object and an LF, and its text; or only its text.
 fn printed_of(alloc: Global, body: Body) -> Result<Printed, AllocError>
     ensures { IfOk result (IsShownAs (object_in body) (text_in body)) }
 {
