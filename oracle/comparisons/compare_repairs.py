@@ -5,7 +5,7 @@ many games that were dealt for real have one slip of the pen, and the second jud
 same costs, as far as both tell them. Each third game has two slips, and the pairs of changes are compared. Of as many short games with few tiles
 all that is told has to be the same, in the same order, and so has the object of `repair --json` of each record of which all is known. Of a record with more
 changes than are tried it has to be told which are not. A record is passed over if the rule of completion, which is all that the second judge has, leaves
-open whether a deal fits with some change.
+open whether a deal fits with some change, or if the program may end its search for pairs before it comes to one (`pairs.py`).
 """
 import json
 import random

@@ -102,13 +102,15 @@ def is_likely(single):
 @remembered
 def pairs(events, listed, rules=ENGLISH):
     """The pairs that repair a record, each resulting record once, those that cost least first. They are looked for if the first single repair is not
-    likely, and each costs less than any. Also whether of each second change it is known whether a deal fits."""
+    likely, and each costs less than any. Also whether of each second change it is known whether a deal fits, and whether the program comes to it: a record
+    that the rules allow to its end with the head alone is searched only for a number of steps, the last lines first, and steps are not counted here."""
     singles = [it for it in repairs(events, listed, rules) if it.dealt]
     least = min((it.cost for it in singles), default=inf)
     found, known = [], True
     for head in [] if singles and is_likely(singles[0]) else heads(events, listed, rules):
-        seconds = [it for it in repairs_below(Front(rules, head.made, listed), inf) if head.change.weight + it.cost < least]
-        known = known and all(it.dealt for it in seconds)
+        front = Front(rules, head.made, listed)
+        seconds = [it for it in repairs_below(front, inf) if head.change.weight + it.cost < least]
+        known = known and all(it.dealt for it in seconds) and not (seconds and len(front.taken) == len(front.events))
         found += [Pair(head, it) for it in seconds if it.dealt and is_of_sheet(head, it)]
     seen, told = {it.record() for it in singles}, []
     for pair in sorted(found, key=lambda it: it.cost):
