@@ -3,7 +3,7 @@
 #
 # PROGRAM is crates/referee/out/referee, TESTS is crates/test_hostile/out/test_hostile_tests, PROBE, which shows what settles a record,
 # is crates/tool_settle/out/tool_settle, and CHANGES, which shows the single changes of a record, is crates/tool_changes/out/tool_changes,
-# all as `rt ci` leaves them, unless others are named. Each part is stopped after ten minutes, and has failed then; if a part fails, the end of what it said follows its
+# all as `rt ci` leaves them, unless others are named. Each part is stopped after twenty minutes, and has failed then; if a part fails, the end of what it said follows its
 # line. Random inputs are drawn from the date, so that each day tries others; with SEED=20270131 in front they are those of that day.
 # The last line is 'N passed, M failed', and the exit status is 0 if nothing failed.
 set -u
@@ -22,7 +22,7 @@ failed=0
 # Runs a script of oracle/run, given with its arguments, as one part.
 part() {
     local start=$SECONDS status=0
-    timeout -k 10 600 oracle/run "$@" > "$said" 2>&1 < /dev/null || status=$?
+    timeout -k 10 1200 oracle/run "$@" > "$said" 2>&1 < /dev/null || status=$?
     if [ "$status" = 0 ]; then
         passed=$((passed + 1))
         echo "passed in $((SECONDS - start)) s: $*"
@@ -52,7 +52,7 @@ compare_tops 50
 compare_rules 20
 compare_archive 60
 archive_scripts 30
-compare_audits 60
+compare_audits 30
 compare_drafts 60
 compare_objects 30
 compare_explains 60

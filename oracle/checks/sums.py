@@ -1,9 +1,10 @@
 """Compares extra/rt with the `rt` that it starts: sums FOLDER
 
-The toolchains are made up here: one whose `rt` makes the sum of a crate again for each path to it, one that keeps its sums itself, and one that is
-not a script in Python. With each of them extra/rt has to print the same and to end with the same status, and with the first it has to read the file
-of each crate once for each sum that is asked for. A file that changes between two sums has to change the second. If the machine has a toolchain whose
-sums are made like those of the first, sums of crates of FOLDER, which has a crates.txt, are compared too. Nothing is proved here.
+The toolchains are made up here: one whose `rt` makes the sum of a crate, and the list of the crates below it, again for each path to it, one that keeps
+both itself, and one that is not a script in Python. With each of them extra/rt has to print the same and to end with the same status, and with the first
+it has to read the file of each crate once for each sum that is asked for, and to make each list once. A file that changes between two sums has to change
+the second. If the machine has a toolchain that makes sums and lists like the first, those of crates of FOLDER, which has a crates.txt, are compared too.
+Nothing is proved here.
 """
 import os
 import shutil
@@ -25,7 +26,7 @@ loader.exec_module(rtlib)
 """
 LIBRARY = """
 import functools
-read = []
+read, listed = [], []
 class Crate:
     def __init__(self, file, *deps):
         self.file, self.deps = file, deps
@@ -34,6 +35,13 @@ class Crate:
         read.append(self.file)
         with open(self.file) as it:
             return f"{it.read()}({' '.join([dep.stamp() for dep in self.deps])})"
+    KEPT
+    def below(self):
+        listed.append(self.file)
+        found = []
+        for dep in self.deps:
+            found += [it for it in [*dep.below(), dep] if it not in found]
+        return found
 """
 # d is reached by three paths from a; a changes after its first sum, and d after the second.
 MAIN = """
@@ -42,8 +50,10 @@ def main(words):
     b, c = rtlib.Crate("b", d), rtlib.Crate("c", d)
     a = rtlib.Crate("a", b, c, d)
     for changed in ("a", "d", None):
-        print(a.stamp(), c.stamp(), *words)
-        print(len(rtlib.read), file=sys.stderr)
+        below = a.below()
+        print(a.stamp(), c.stamp(), *[it.file for it in below], *words)
+        print(len(rtlib.read), len(rtlib.listed), file=sys.stderr)
+        below.clear()
         if changed:
             with open(changed, "a") as it:
                 it.write("!")
@@ -88,8 +98,8 @@ def faults_of_made_up(room):
         status, printed, said = run(STARTER, toolchain, room / f"{name}-once")
         if (status, printed) != plain[:2]:
             yield f"{name}: {status} {printed!r}, and not {plain[:2]}"
-        if name == "anew" and (plain[2].split(), said.split()) != (["8", "16", "24"], ["6", "12", "18"]):
-            yield f"{name}: files were read {plain[2]!r} and {said!r} times"
+        if name == "anew" and (plain[2].splitlines(), said.splitlines()) != (["8 6", "16 12", "24 18"], ["6 4", "12 4", "18 4"]):
+            yield f"{name}: files were read and lists made {plain[2]!r} and {said!r} times"
         if name != "anew" and said != plain[2]:
             yield f"{name}: {said!r}, and not {plain[2]!r}"
     if run(STARTER, room / "nowhere", room / "without")[0] != 2:
@@ -102,13 +112,18 @@ def faults_of_this_one(folder):
     starting = module_from_spec(spec_from_loader(loader.name, loader))
     loader.exec_module(starting)
     rt = starting.loaded(os.path.realpath(shutil.which("rt") or "rt"))
-    made_by = starting.whose_sums_repeat(rt)
-    if made_by is None:
-        print("left out: the sums of the repository, which need a toolchain that makes them again for each path")
+    crate = rt.rtlib.Crate
+    if not starting.repeats(crate.stamp) or not starting.repeats(crate.below):
+        print("left out: the sums of the repository, which need a toolchain that makes sums and lists again for each path")
         return
+    below, crate.below = crate.below, starting.kept_for_good(crate.below)
     crates = [it for it in rt.rtlib.crates_below(os.path.abspath(folder)) if len(it.below()) < 12]
+    lists = [it.below() for it in crates]
+    crate.below = below
+    if lists != [it.below() for it in crates]:
+        yield "the lists of crates"
     plain = [it.stamp() for it in crates]
-    made_by.stamp = starting.kept_for_one_sum(made_by.stamp)
+    crate.stamp = starting.kept_for_one_sum(crate.stamp)
     if plain != [it.stamp() for it in crates] or len({*plain}) < len(crates):
         yield "the sums of the repository"
 
