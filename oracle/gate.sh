@@ -1,10 +1,11 @@
 #!/usr/bin/env bash
-# Compares the program with the second judge, in a few minutes: oracle/gate.sh [PROGRAM [TESTS [PROBE [CHANGES]]]]
+# Compares the program with the second judge: oracle/gate.sh [PROGRAM [TESTS [PROBE [CHANGES]]]]
 #
 # PROGRAM is crates/referee/out/referee, TESTS is crates/test_hostile/out/test_hostile_tests, PROBE, which shows what settles a record,
 # is crates/tool_settle/out/tool_settle, and CHANGES, which shows the single changes of a record, is crates/tool_changes/out/tool_changes,
-# all as `rt ci` leaves them, unless others are named. Each part is stopped after twenty minutes, and has failed then; if a part fails, the end of what it said follows its
-# line. Random inputs are drawn from the date, so that each day tries others; with SEED=20270131 in front they are those of that day.
+# all as `rt ci` leaves them, unless others are named. Each part is stopped after twenty minutes, and has failed then; if a part fails, the end of what
+# it said follows its line. Beside other work all parts took half an hour. Random inputs are drawn from the date, so that each day tries others; with
+# SEED=20270131 in front they are those of that day.
 # The last line is 'N passed, M failed', and the exit status is 0 if nothing failed.
 set -u
 cd "$(dirname "$0")/.." || exit 2

@@ -116,7 +116,7 @@ def faults_of_this_one(folder):
     if not starting.repeats(crate.stamp) or not starting.repeats(crate.below):
         print("left out: the sums of the repository, which need a toolchain that makes sums and lists again for each path")
         return
-    below, crate.below = crate.below, starting.kept_for_good(crate.below)
+    below, crate.below = crate.below, starting.kept_while_same(crate.below)
     crates = [it for it in rt.rtlib.crates_below(os.path.abspath(folder)) if len(it.below()) < 12]
     lists = [it.below() for it in crates]
     crate.below = below
