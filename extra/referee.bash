@@ -15,9 +15,9 @@ _referee() {
         index) options="-h --help" ;;
         audit) options="--corrected --json --first-field --skip-others --rules -h --help" ;;
         fill) options="--next --json --first-field --skip-others --rules -h --help" ;;
-        explain) options="--json --first-field --skip-others --rules -h --help" ;;
-        repair) options="--number --repaired --json --first-field --skip-others --rules -h --help" ;;
-        compare) options="--merged --json --first-field --skip-others --rules -h --help" ;;
+        explain) options="--draft --json --first-field --skip-others --rules -h --help" ;;
+        repair) options="--number --repaired --draft --json --first-field --skip-others --rules -h --help" ;;
+        compare) options="--merged --draft --json --first-field --skip-others --rules -h --help" ;;
         page) options="--first-field --skip-others --rules -h --help" ;;
         annotate) options="--top --first-field --skip-others --rules -h --help" ;;
         build) options="--first-field --skip-others -h --help" ;;
@@ -26,7 +26,7 @@ _referee() {
         convert) options="-h --help" ;;
         top) options="--number --before --json --first-field --skip-others --rules -h --help" ;;
         tidy) options="-h --help" ;;
-        board) options="--before --json --rules -h --help" ;;
+        board) options="--before --draft --json --rules -h --help" ;;
         serve) options="--first-field --skip-others --rules -h --help" ;;
         rules) options="-h --help" ;;
         help) values="judge archive index audit fill explain repair compare page annotate build check word convert top tidy board serve rules help" ;;

@@ -154,8 +154,19 @@ class Client(Differences):
         self.expect(bad.fault == {"name": "Fields"} and bad.amiss == "no word", bad)
         told = referee.next(WORD.replace(" 16\n", "\n"))
         self.expect(told.turn == 2 and told.bag == 82 and [it["total"] for it in told.players] == [16, 0], told)
+        self.with_draft(referee, WORD.replace(" +16 16", ""), WORD.replace("+16 16", "+18"))
         self.raised(BadRequest, lambda: referee.ask("fill", game=WORD))
         self.raised(BadRequest, lambda: referee.ask("next", draft=WORD, filled=True))
+
+    def with_draft(self, referee, bare, wrong):
+        """What is told of drafts with `draft`."""
+        self.expect(referee.explain(bare, draft=True).status == 0 and referee.explain(wrong, draft=True)["text"] == wrong.removesuffix("\n"), wrong)
+        self.expect([it["total"] for it in referee.board(bare, draft=True).players] == [16, 0], bare)
+        self.expect(referee.repair(wrong, number=1, draft=True).to_go_by == 1 and referee.repair(bare, draft=True).status == 0, wrong)
+        told = referee.compare(bare, WORD, merged=True, draft=True)
+        self.expect(told.verdict == "agree" and told.text.endswith(">A: AADEORW 8E WORD +16 16\n"), told, told.text)
+        for ask in (lambda: referee.explain(bare), lambda: referee.board(bare), lambda: referee.repair(bare), lambda: referee.compare(bare, bare)):
+            self.raised(BadInput, ask, bare)
 
     def threads(self):
         """1,000 requests from 8 threads."""

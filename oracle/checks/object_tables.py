@@ -55,7 +55,7 @@ ANSWERS = [
 def defined(text, name):
     """The keys that a definition gives an object, in their order."""
     found = re.search(rf"^{name}\b[^\n]*=\n((?:    .*\n)+)|^{name}\b[^\n]*= (.*)$", text, re.MULTILINE)
-    return re.findall(r'codes "([a-z_]+)", ', found[1] or found[2]) if found else []
+    return re.findall(r'codes "([a-z_]+)"(?:, |\) \()', found[1] or found[2]) if found else []
 
 
 def told(page, words):

@@ -2706,6 +2706,172 @@ def explained_in_json(run, told):
     run.row(["explain", "--json", "word", "word.gad", "nowhere"], 4, refusal("cannot open", file="nowhere"), error="referee: cannot open nowhere: no such file")
 
 
+def on_drafts(run):
+    """`explain --draft` and `board --draft`: what they say of the sheet that a draft makes, with its lines as they are in the draft."""
+    run.row(["build", "word", "word.gad"], 0)
+    bare, files, ahead = WORD.removesuffix(" +16 16\n"), ["word", "word.gad", "draft"], "A is ahead by 16\n"
+    by_sheet = "A is ahead by 16; by the sheet A is ahead by 18\n"
+
+    def score(line):
+        return f"illegal line 1: WrongScore 16\nline 1: {line}\nThe play scores 16, but 18 is written.\n"
+
+    sums, fits = WORD_SUMS + picture_of(1, True, WORD_MARKED), "With 16 the total is 16, as is written.\n"
+    turn = "illegal line 2: NotYourTurn\nline 2: >A: -\nIt is the other player's turn, not A's.\nIf this is a line of the other player, the rules allow it.\n" + picture_of(2, False, ROW_OF_WORD)
+    total = "illegal line 3: WrongTotal 16\nline 3: >A: - +0 18\nA had 16 and scores 0 on this line, which makes 16, but 18 is written.\n" + picture_of(3, False, ROW_OF_WORD)
+    not_judged = "illegal line 2: NotYourTurn\nline 3: >B: -\nThe rules do not allow line 2, so this line was not judged.\n" + picture_of(3, False, ROW_OF_WORD)
+    for draft, status, out, line in [
+        (bare, 0, f"legal unfinished\n{STANDS}", []),
+        (WORD, 0, f"legal unfinished\n{STANDS}", []),
+        (f"{bare} +18\n", 1, score(f"{bare} +18") + sums + ahead, []),
+        (f"{bare} +18\n", 1, score(f"{bare} +18") + sums, ["1"]),
+        # that the total is right is said only if it is written
+        (f"{bare} +18 16\n", 1, score(f"{bare} +18 16") + fits + sums + ahead, []),
+        (f"{bare}\n>A: -\n", 1, turn, []),
+        (f"{bare}\n>A: -\n>B: -\n", 1, not_judged, ["3"]),
+        (f"{bare}\n>B: -\n>A: - +0 18\n", 1, total + by_sheet, []),
+        ("", 3, "no game\n", []),
+        *[(text, 3, f"bad record line 1: Fields\n{why}\n", []) for text, why in AMISS.items()],
+        (">A: -\n>B: - +0\n>C: -\n", 3, "bad record line 3: ThirdPlayer\n", []),
+        ("\n" * 1_048_577, 3, "bad record: TooLong\n", []),
+    ]:
+        Path(run.folder, "draft").write_text(draft)
+        more = {} if draft else {"error": "referee: draft has no event: it is empty"}
+        run.row(["explain", "--draft", *files, *line], status, out, **more)
+    after, laid = "after the last event", (ROW_OF_WORD, *WITHOUT_WORD)
+    for draft, status, out, line in [
+        (bare, 0, board_of(after, "A 16\n 0\n", *laid), []),
+        (WORD, 0, board_of(after, "A 16\n 0\n", *laid), []),
+        (bare, 0, board_of("before line 1", "A 0\n 0\nrack AADEORW\n"), ["--before", "1"]),
+        (bare, 3, "bad line: no event is on it or after it\n", ["--before", "2"]),
+        (f"{bare} +18\n", 0, board_of(after, "A 16\n 0\n", *laid), []),
+        (f"{bare} +18 18\n>B: -\n", 0, board_of(after, "A 18\nB 0\n", *laid), []),
+        (f"{bare}\n>B: -\n>A: -\n", 0, board_of(after, "A 16\nB 0\n", *laid), []),
+        # no number is put in from a line on that the rules refuse, or that has a challenge
+        (f"{bare}\n>A: -\n>A: -\n>B: - +0 7\n>B: -\n", 0, board_of(after, "A 16\nB 7\n", *laid), []),
+        (f"{bare}\n>A: (challenge) +5\n>B: -\n", 0, board_of(after, "A 16\nB 0\n", *laid), []),
+        (f"{bare}\n>A: (challenge) +5 21\n>B: -\n>A: -\n", 0, board_of(after, "A 21\nB 0\n", *laid), []),
+        *[(text, 3, f"bad record line 1: Fields\n{why}\n", []) for text, why in AMISS.items()],
+    ]:
+        Path(run.folder, "draft").write_text(draft)
+        run.row(["board", "--draft", *line, "draft"], status, out, error="")
+        run.row(["board", "--draft", "--rules", "english.rules", *line, "draft"], status, out, error="")
+    run.row(["board", "--draft", "nothing"], 0, board_of(after, " 0\n 0\n"), error=NO_EVENT["nothing"])
+    run.row(["board", "--draft", "--rules", "tiles.rules", "draft"], 3, "bad rules line 1: Unknown\n")
+    run.row(["board", "--draft", "nowhere"], 4, error="referee: cannot open nowhere: no such file")
+    for words in (["explain", "--draft", "word", "word.gad"], ["board", "--draft"], ["judge", "--draft", *files], ["audit", "--draft", *files]):
+        run.row(words, 64, error=None)
+    on_drafts_in_json(run, bare, files)
+    drafts_repaired(run, files)
+    drafts_compared(run, bare)
+
+
+def drafts_repaired(run, files):
+    """`repair --draft`: a number that is missing is neither right nor wrong, and the sheet that is written has every number."""
+    no_score, passed = WORD.replace(" +16 16", " +18"), WORD.replace(" +16 16", "") + ">A: -\n>A: - +0 16\n"
+    alone = "illegal line 1: WrongScore 16\nnumbers to go by: 1 of 2, the others are missing\nwith only the numbers corrected it is a game\n"
+    too_many = "line 1: it should not be there\n  0 of 0 numbers right\n"
+    both = alone + "  0 of 1 numbers right\n  line 1: score 18, should be 16\n" + too_many
+    other = "illegal line 4: NotYourTurn\nnumbers to go by: 2 of 6, the others are missing\nline 4: B's line, not A's\n  2 of 2 numbers right\n"
+    named = "#player1 A\n#player2 B\n"
+    for draft, status, out, kept in [
+        (WORD.replace(" +16 16", ""), 0, "legal unfinished\n", "not written: there is nothing to repair\n"),
+        (WORD, 0, "legal unfinished\n", None),
+        (no_score, 1, both, "not written: correcting only the numbers is as likely as the first repair, or nearly so\n"),
+        (named + passed, 1, other, named + WORD + ">B: - +0 0\n>A: - +0 16\n"),
+        *[(text, 3, f"bad record line 1: Fields\n{why}\n", None) for text, why in AMISS.items()],
+    ]:
+        Path(run.folder, "draft").write_text(draft)
+        run.row(["repair", "--draft", *files], status, out)
+        Path(run.folder, "out").write_bytes(b"as it was")
+        if kept and kept.startswith("not written"):
+            run.row(["repair", "--draft", "--repaired", "out", *files], status, out + kept, wrote=b"as it was")
+        elif kept:
+            run.row(["repair", "--draft", "--repaired", "out", *files], status, out + "written: the sheet with the first repair\n", wrote=kept.encode())
+    Path(run.folder, "draft").write_text(no_score)
+    said = json.loads(subprocess.run([run.program, "repair", "--json", "--draft", *files], cwd=run.folder, capture_output=True, check=False).stdout)
+    told = {"numbers": 1, "numbers_right": 0, "wrong": [{"wrong": "score", "line": 1, "written": 18, "right": 16}], "unlisted": []}
+    run.expect("the numbers of a draft to go by", [said["to_go_by"], said["numbers_alone"], said["repairs"][0]["evidence"]["numbers"]] == [1, told, 0])
+    served = subprocess.run([run.program, "serve", *files[:2]], cwd=run.folder, input=json.dumps({"do": "repair", "draft": True, "game": no_score}).encode(), capture_output=True, check=False)
+    run.expect("a draft is repaired for a request", json.loads(served.stdout.split(b"\n")[1]) == {"id": None, "status": 1, "answer": said})
+    Path(run.folder, "draft").write_text(WORD)
+    said = json.loads(subprocess.run([run.program, "repair", "--json", *files], cwd=run.folder, capture_output=True, check=False).stdout)
+    run.expect("nothing is said of numbers to go by of a record", "to_go_by" not in said)
+
+
+def drafts_compared(run, bare):
+    """`compare --draft`: what one sheet lacks is no difference, and what only one has counts for itself."""
+    told, legal = ["compare", "--draft", "word", "word.gad"], "legal unfinished\n"
+    ahead, merged = legal + "A is ahead by 16\n", "#player1 A\n" + WORD.replace("DORWAAE", "AADEORW")
+    refused = "the first; with the second, line 1 | line 1 is refused: MissesCentre\n" + ahead
+    stuck = "none of 2 choices of the lines is known to be a game\nfirst goes furthest: line 1 | line 1 is refused: MissesCentre\n"
+    both = "both stand\n1 other choice of the lines would stand as well\n"
+    no_game, rival = "not written: no choice of the lines is known to be a game\n", "not written: another choice of the lines would stand as well\n"
+    done, no_play = "written: the merged record\n", "#player1 A\n>A: AADEORW - +0 0\n"
+    for first, second, status, out, kept in [
+        (bare, bare, 0, ahead, merged),
+        (bare, WORD, 0, ahead, merged),
+        (WORD, bare, 0, ahead, merged),
+        (WORD, WORD, 0, ahead, merged),
+        (f"{bare} +18 18\n", bare, 1, legal + "total of A: 18 | none: the rules give 16\nA is ahead by 16; by the first sheet A is ahead by 18\n", merged),
+        (f"{bare} +18\n", bare, 1, ahead, merged),
+        (f"{bare} +16\n", f"{bare} +18\n", 1, f"line 1 | line 1: 8E WORD +16 | 8E WORD +18: the rules give 16\n{ahead}", merged),
+        (bare, bare.replace("8E", "8D"), 1, f"line 1 | line 1: 8E WORD | 8D WORD: {refused}", merged),
+        (WORD, bare.replace("8E", "8D"), 1, f"line 1 | line 1: 8E WORD +16 16 | 8D WORD: {refused}", merged),
+        # a number that only one sheet has says which line it was
+        (bare, ">A: -\n", 1, f"line 1 | line 1: 8E WORD | -: {both}{ahead}", rival),
+        (bare, ">A: - +0\n", 1, f"line 1 | line 1: 8E WORD | - +0: the second; the first leaves more wrong\n{legal}both have the same total\n", no_play),
+        # no change is looked for where a number is missing
+        (bare.replace("8E", "8D"), bare.replace("8E", "8C"), 1, f"line 1 | line 1: 8D WORD | 8C WORD\n{stuck}", no_game),
+        (WORD.replace("8E", "8D"), WORD.replace("8E", "8C"), 1, f"line 1 | line 1: 8D WORD +16 16 | 8C WORD +16 16\n{stuck}first is a game with one more change: line 1: WORD at 8E, not at 8D\n{ahead}", merged),
+    ]:
+        Path(run.folder, "one").write_text(first)
+        Path(run.folder, "two").write_text(second)
+        run.row([*told, "one", "two"], status, out)
+        Path(run.folder, "out").write_bytes(b"as it was")
+        written = kept.startswith("#")
+        run.row([told[0], "--merged", "out", *told[1:], "one", "two"], status, out + (done if written else kept), wrote=kept.encode() if written else b"as it was")
+    for text, why in AMISS.items():
+        Path(run.folder, "one").write_text(text)
+        for sheets in (["one", "line"], ["line", "one"]):
+            run.row([*told, *sheets], 3, f"bad record line 1: Fields\n{why}\n", error="")
+    for sheets in (["nothing", "line"], ["line", "nothing"]):
+        run.row([*told, *sheets], 3, "no game\n", error=NO_EVENT["nothing"])
+    Path(run.folder, "one").write_text(f"{bare} +18\n")
+    Path(run.folder, "two").write_text(bare)
+    ran = subprocess.run([run.program, told[0], "--json", *told[1:], "one", "two"], cwd=run.folder, capture_output=True, check=False)
+    said, best = json.loads(ran.stdout), {"choice": {"lines": [], "racks": []}, "cost": 5, "unlisted": 0}
+    totals = [{"player": 1, "first": None, "second": None, "right": 16}, {"player": 2, "first": None, "second": None, "right": None}]
+    wanted = comparison("differ", [], merged=merged, totals=totals, ahead_by_first=None, ahead_by_second=None) | {"best": best}
+    run.expect(f"drafts are compared: {said}", ran.returncode == 1 and said == wanted and list(said) == list(wanted))
+    asked = {"do": "compare", "draft": True, "first": f"{bare} +18\n", "second": bare}
+    served = subprocess.run([run.program, "serve", *told[2:]], cwd=run.folder, input=json.dumps(asked).encode(), capture_output=True, check=False)
+    run.expect("drafts are compared for a request", json.loads(served.stdout.split(b"\n")[1]) == {"id": None, "status": 1, "answer": said})
+
+
+def on_drafts_in_json(run, bare, files):
+    """The same as objects, and as answers to requests: the line that is explained is that of the draft."""
+
+    def told(words, asked, status):
+        ran = subprocess.run([run.program, *words], cwd=run.folder, capture_output=True, check=False)
+        run.expect(f"the status of {words}", ran.returncode == status)
+        served = subprocess.run([run.program, "serve", "word", "word.gad"], cwd=run.folder, input=json.dumps(asked).encode(), capture_output=True, check=False)
+        said = json.loads(served.stdout.split(b"\n")[1])
+        run.expect(f"{asked} is answered with {said}", said == {"id": None, "status": status, "answer": json.loads(ran.stdout)})
+        return json.loads(ran.stdout)
+
+    Path(run.folder, "draft").write_text(f"{bare} +18\n")
+    said = told(["explain", "--json", "--draft", *files], {"do": "explain", "draft": True, "game": f"{bare} +18\n"}, 1)
+    run.expect("the line of a draft", [said["text"], said["fault"], said["likely"]] == [f"{bare} +18", {"name": "WrongScore", "expected": 16}, None])
+    run.expect("no fact of a missing total", said["facts"] == [{"name": "PlayScore", "right": 16, "written": 18}])
+    said = told(["board", "--json", "--draft", "draft"], {"do": "board", "draft": True, "game": f"{bare} +18\n"}, 0)
+    run.expect("the totals of a board of a draft", [it["total"] for it in said["players"]] == [16, 0])
+    for text, name in ((">A: 8E\n", "no word"), (">A: AB\n", "no event"), (">A: (challenge)\n", "no score"), (">A: - 1 2 3\n", "too many")):
+        Path(run.folder, "draft").write_text(text)
+        for do, words in (("explain", files), ("board", ["draft"])):
+            said = told([do, "--json", "--draft", *words], {"do": do, "draft": True, "game": text}, 3)
+            run.expect("a text that is no draft", json.dumps(said, separators=(",", ":")) + "\n" == refusal("bad record", 1, {"name": "Fields"}, amiss=name))
+
+
 def helped(run):
     """Help and the version, on standard output. The text of help is not fixed, but there is some."""
     run.row(["--version"], 0, "referee 1.2.0\nrecords: GCG\nword lists: one word a line\nlexicons: GAD1, GAD2\n")
@@ -2744,7 +2910,7 @@ def main():
     with tempfile.TemporaryDirectory() as folder:
         files(folder)
         run = Runner(os.path.abspath(sys.argv[1]), folder)
-        for part in (judged, settled, built_and_checked, converted, topped, topped_before, ruled, tidied, boarded, widest, from_standard_input, fielded, skipped, words_ruled, archived, served, audited, filled, repairs_listed, compared, explained, explain_rows, paged, annotated, kept_bests, counted_points, on_a_terminal, in_json, lines_unread, put_out, overwritten, hinted, misordered, broken, helped, misused):
+        for part in (judged, settled, built_and_checked, converted, topped, topped_before, ruled, tidied, boarded, widest, from_standard_input, fielded, skipped, words_ruled, archived, served, audited, filled, on_drafts, repairs_listed, compared, explained, explain_rows, paged, annotated, kept_bests, counted_points, on_a_terminal, in_json, lines_unread, put_out, overwritten, hinted, misordered, broken, helped, misused):
             part(run)
         if sys.argv[2:] == ["large"]:
             converted_large(run)

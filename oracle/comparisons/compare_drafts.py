@@ -13,8 +13,10 @@ from dataclasses import replace
 
 from audits import MOST, status, ways
 from comparing import Differences, compare_cases, without_amount
+from comparisons import compared_objects
 from dealing import Dealer, likely, line
 from deals import event_of
+from draft_repairs import draft_repair_text
 from drafts import DraftFault, fill, filled_text, lines_of, next_lines, read, stand_in
 from fuzz import TEXT_DAMAGES, damaged
 from lexicons import GAD2, build, convert
@@ -132,6 +134,8 @@ class Drafts(Differences):
             self.expect(lines[:1] == [put_in(made.lacks)] and lines[1].startswith(("legal", "unsettled")), lines, made.lacks)
             self.expect(code == {"legal": 0, "unsettled": 2}[lines[1].split()[0]], code, lines)
         self.foresee(made, listed, rules)
+        if len(events) <= 10:
+            self.paired(events, listed, rules)
 
     def foresee(self, made, listed, rules):
         """Compares what is said of the next line of a draft, or of some lines of one, with the second judge."""
@@ -178,6 +182,49 @@ class Drafts(Differences):
             self.expect(out == filled_text(draft, written, [(it.score, it.total) for it in found.right]), "record", draft, out)
         told = [{"line": number, "score": it.score, "total": it.total, "score_put_in": missing == 2} for number, it, missing in zip(numbers, found.right, lacks) if missing]
         self.objects(draft, verdict, code, out, lacks[:found.stop], told[:sum(map(bool, lacks[:found.stop]))])
+        self.others(draft, written, sheet, lacks, found.stop)
+        if len(sheet) <= 8 and likely(0.1):
+            self.repaired(draft, sheet, lacks, listed, rules, numbers, nicks)
+
+    def repaired(self, draft, sheet, lacks, listed, rules, numbers, nicks):
+        """Compares what `repair` says of a draft with the second judge, by which a number that is missing counts nowhere."""
+        ran = self.run("repair", "--draft", *self.by, "words", "lexicon", "draft")
+        verdict, _, told = ran.stdout.decode("latin-1").partition("\n")
+        if ran.returncode != 1 or "no deal was found" in told:
+            return
+        self.seen["repaired " + ("whole" if not any(lacks) else "with a number missing")] += 1
+        wanted = draft_repair_text(sheet, lacks, listed, rules, nicks, numbers)
+        self.expect(told == wanted, "repair", draft, verdict, told, wanted)
+
+    def paired(self, events, listed, rules):
+        """Compares what `compare` says of two drafts of one game with the second judge, by which a number that is missing counts nowhere."""
+        self.by = self.write(b"", listed, rules)
+        sheets = [Draft(self.spoiled(events) if likely(0.3) else events, choose([0.3, 1])).draft for _ in range(2)]
+        for name, text in zip(("one", "two"), sheets):
+            self.put(name, text)
+        ran = self.run("compare", "--json", "--draft", *self.by, "words", "lexicon", "one", "two")
+        text = (self.folder / "rules").read_bytes() if self.by else None
+        for wanted in compared_objects((self.folder / "words").read_bytes(), *sheets, text, True):
+            told = json.loads(ran.stdout)
+            self.seen["compared: " + wanted["verdict"]] += 1
+            self.expect(told == wanted and list(told) == list(wanted), "compare", *sheets, told, wanted)
+
+    def others(self, draft, written, sheet, lacks, stop):
+        """Compares what `explain` and `board` say of a draft with what they say of the record that the second judge makes of it."""
+        last = max([it.line for it in written][:stop], default=None)
+        if last is None or stop is not None:
+            return
+        self.put("sheet", filled_text(draft, written, [(it.score, it.total) for it in sheet]))
+        at = str(random.randint(1, last))
+        board = ["--before", at] if likely(0.5) else []
+        rules = self.by if self.by else []
+        told, wanted = (self.run("board", *more, *rules, *board, name).stdout for more, name in ((["--draft"], "draft"), ([], "sheet")))
+        self.seen["board"] += 1
+        if not any(b"challenge" in it.what for it in written):
+            self.expect(told == wanted, "board", draft, told, wanted)
+        if not any(lacks):
+            told, wanted = (self.run("explain", *more, *rules, "words", "lexicon", name, at) for more, name in ((["--draft"], "draft"), ([], "sheet")))
+            self.expect((told.stdout, told.returncode) == (wanted.stdout, wanted.returncode), "explain", draft, told.stdout, wanted.stdout)
 
     def objects(self, draft, verdict, code, out, lacks, lines):
         """Compares the object of `fill --json` with the numbers that are put in, and the answers of `serve` with the objects."""

@@ -32,6 +32,11 @@ def some_request():
         asked = {"do": do}
     if do == "compare":
         asked = {"id": random.choice([1, "a", None]), "do": do, "first": random.choice(GAMES), "second": random.choice(GAMES)}
+    if do == "compare" and random.random() < 0.4:
+        bare = [*GAMES, ">A: 8E WORD\n", ">A: DORWAAE 8E WORD +18\n>B: -\n", ">A: DORWAAE 8E\n"]
+        asked |= {"draft": True, "first": random.choice(bare), "second": random.choice(bare)}
+    if do in ("explain", "board", "repair"):
+        asked |= random.choice([{}, {"draft": True}, {"draft": True, "game": random.choice([">A: 8E WORD\n", ">A: DORWAAE 8E\n", ">A: DORWAAE 8E WORD +18\n>B: -\n"])}])
     if do in ("fill", "next"):
         asked = {"id": random.choice([1, "a", None]), "do": do, "draft": random.choice([*GAMES, ">A: 8E WORD\n", ">A: DORWAAE 8E\n"])}
     for key in random.sample(["first", "second", "merged", "repaired", "draft", "filled", "number", "line", "rack", "number", "settle", "best", "corrected", "likely", "words", "id", "do", "game", "other"], random.choice([0, 0, 0, 1, 2])):

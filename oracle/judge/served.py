@@ -15,22 +15,23 @@ from repair_objects import repaired_objects
 LONGEST = 4 << 20
 KEYS = {
     "judge": {"game", "settle", "best"},
-    "explain": {"game", "line", "likely"},
+    "explain": {"game", "line", "likely", "draft"},
     "audit": {"game", "corrected"},
-    "board": {"game", "line"},
+    "board": {"game", "line", "draft"},
     "top": {"game", "line", "rack", "number"},
     "word": {"words"},
     "check": set(),
     "tidy": {"game"},
     "page": {"game", "likely"},
-    "repair": {"game", "number", "repaired"},
-    "compare": {"first", "second", "merged"},
+    "repair": {"game", "number", "repaired", "draft"},
+    "compare": {"first", "second", "merged", "draft"},
     "annotate": {"game", "number"},
     "fill": {"draft", "filled"},
     "next": {"draft"},
 }
 NEEDED = {"word": ("words",), "check": (), "compare": ("first", "second"), "fill": ("draft",), "next": ("draft",)}
-TEXTS, FLAGS = ("game", "first", "second", "draft", "rack"), ("settle", "best", "corrected", "likely", "repaired", "merged", "filled")
+TEXTS, FLAGS = ("game", "first", "second", "rack"), ("settle", "best", "corrected", "likely", "repaired", "merged", "filled")
+DRAFTS = ("fill", "next")  # the commands whose `draft` is a text; that of others says that their `game` is one
 STATUSES = {"ok": 0, "legal": 0, "acceptable": 0, "illegal": 1, "not acceptable": 1, "unsettled": 2, "agree": 0, "differ": 1}
 
 
@@ -109,8 +110,9 @@ def request_of(told):
 def check_members(id, do, said):
     """That each member is what it has to be."""
     numbers = {"line": (0, 2**32 - 1), "number": (1, 100)}
-    good = all(isinstance(said[key], str) for key in TEXTS if key in said)
-    good &= all(isinstance(said[key], bool) for key in FLAGS if key in said)
+    texts, flags = [*TEXTS, *["draft"] * (do in DRAFTS)], [*FLAGS, *["draft"] * (do not in DRAFTS)]
+    good = all(isinstance(said[key], str) for key in texts if key in said)
+    good &= all(isinstance(said[key], bool) for key in flags if key in said)
     good &= all(isinstance(said[key], int) and is_number(said[key]) and least <= said[key] <= most for key, (least, most) in numbers.items() if key in said)
     good &= all(key in said for key in NEEDED.get(do, ("game",)))
     if do == "word":
@@ -162,7 +164,7 @@ def objects_for(words, lexicon, do, said, text):
     if do == "repair":
         return repaired_objects(words, lexicon, game, text, said.get("number", 10))
     if do == "compare":
-        return compared_objects(words, said["first"].encode(), said["second"].encode(), text)
+        return compared_objects(words, said["first"].encode(), said["second"].encode(), text, said.get("draft", False))
     told = tidy(game)
     return [refused(told)] if told.startswith(b"bad record") else []
 

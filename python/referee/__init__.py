@@ -82,6 +82,7 @@ class Answer(dict[str, Any]):
     numbers_alone_settled: Optional[bool]
     sheet_slips: Objects
     line_slips: Objects
+    to_go_by: int
     # compare
     differences: Objects
     not_varied: int
@@ -193,17 +194,18 @@ class Referee:
         """Judges a game, with `settle` by a search for a deal. Without `best` no best plays are looked for."""
         return self.ask("judge", game=text_of(game), settle=settle, best=best)
 
-    def explain(self, game: Game, line: Optional[int] = None, *, likely: bool = True) -> Answer:
-        """Explains the verdict on a game, or one of its lines. Without `likely` no likely repair of an illegal record is looked for."""
-        return self.ask("explain", game=text_of(game), line=line, likely=likely)
+    def explain(self, game: Game, line: Optional[int] = None, *, likely: bool = True, draft: bool = False) -> Answer:
+        """Explains the verdict on a game, or one of its lines. Without `likely` no likely repair of an illegal record is looked for. With `draft` the text is that
+        of a draft."""
+        return self.ask("explain", game=text_of(game), line=line, likely=likely, draft=draft)
 
     def audit(self, game: Game, *, corrected: bool = False) -> Answer:
         """Audits a sheet. If `corrected` is true and the corrected record stands, it is the `text` of the answer."""
         return self.ask("audit", game=text_of(game), corrected=corrected)
 
-    def board(self, game: Game, line: Optional[int] = None) -> Answer:
-        """The board after the last event of a record, or before one of its lines."""
-        return self.ask("board", game=text_of(game), line=line)
+    def board(self, game: Game, line: Optional[int] = None, *, draft: bool = False) -> Answer:
+        """The board after the last event of a record, or before one of its lines. With `draft` the text is that of a draft."""
+        return self.ask("board", game=text_of(game), line=line, draft=draft)
 
     def top(self, game: Game, rack: Optional[str] = None, *, line: Optional[int] = None, number: Optional[int] = None) -> Answer:
         """The best plays by a rack, or by the one that the line shows: ten, or `number` of them."""
@@ -225,14 +227,15 @@ class Referee:
         """The page of a game, as HTML. Without `likely` it does not show the likely repair of an illegal record."""
         return self.ask("page", game=text_of(game), likely=likely).text or ""
 
-    def repair(self, game: Game, *, number: Optional[int] = None, repaired: bool = False) -> Answer:
+    def repair(self, game: Game, *, number: Optional[int] = None, repaired: bool = False, draft: bool = False) -> Answer:
         """What repairs an illegal record, or a text that is not one, in ten lines, or in `number` lines. If `repaired` is true and one repair is to be chosen,
-        the repaired sheet is the `text` of the answer. A text that is not a record is a `BadInput`, whose `answer` has the repairs and the text."""
-        return self.ask("repair", game=text_of(game), number=number, repaired=repaired)
+        the repaired sheet is the `text` of the answer. A text that is not a record is a `BadInput`, whose `answer` has the repairs and the text. If `draft` is
+        true, the text is that of a draft, and only the numbers that are written count."""
+        return self.ask("repair", game=text_of(game), number=number, repaired=repaired, draft=draft)
 
-    def compare(self, first: Game, second: Game, *, merged: bool = False) -> Answer:
-        """Compares two sheets of one game. If `merged` is true and there is a merged record, it is the `text` of the answer."""
-        return self.ask("compare", first=text_of(first), second=text_of(second), merged=merged)
+    def compare(self, first: Game, second: Game, *, merged: bool = False, draft: bool = False) -> Answer:
+        """Compares two sheets of one game, or two drafts if `draft` is true. If `merged` is true and there is a merged record, it is the `text` of the answer."""
+        return self.ask("compare", first=text_of(first), second=text_of(second), merged=merged, draft=draft)
 
     def annotate(self, game: Game, *, number: Optional[int] = None) -> str:
         """A sheet with notes: after each turn its best play, or the `number` best; and after the line that is refused, why it is."""

@@ -185,6 +185,13 @@ const FIRST_FIELD_OPTION: Argument = flag!(
     None
 );
 
+/// The option of a command that takes a draft in place of a record.
+const DRAFT: Argument = flag!(
+    "draft",
+    "read GAME as a draft, whose event lines may lack the total, or the score and the total",
+    None
+);
+
 /// The option for an answer that is a JSON object.
 const JSON: Argument = flag!("json", "write the answer as a JSON object", None);
 
@@ -425,7 +432,7 @@ const FILL: CommandRow = CommandRow {
     ],
 };
 
-/// `explain [--first-field] [--skip-others] [--json] [--rules FILE] WORDS LEXICON GAME [LINE]`.
+/// `explain [--first-field] [--skip-others] [--draft] [--json] [--rules FILE] WORDS LEXICON GAME [LINE]`.
 const EXPLAIN: CommandRow = CommandRow {
     name: "explain",
     asks: Asks::Game(GameCommand::Explain),
@@ -450,6 +457,7 @@ const EXPLAIN: CommandRow = CommandRow {
                 "the line of the record to be explained, counted from 1; without it the one that the verdict names"
             )
         },
+        DRAFT,
         JSON,
         FIRST_FIELD_OPTION,
         SKIP_OTHERS_OPTION,
@@ -457,7 +465,7 @@ const EXPLAIN: CommandRow = CommandRow {
     ],
 };
 
-/// `repair [--first-field] [--skip-others] [--json] [--rules FILE] [--number N] [--repaired OUT] WORDS LEXICON GAME`.
+/// `repair [--first-field] [--skip-others] [--draft] [--json] [--rules FILE] [--number N] [--repaired OUT] WORDS LEXICON GAME`.
 const REPAIR: CommandRow = CommandRow {
     name: "repair",
     asks: Asks::Game(GameCommand::Repair),
@@ -487,6 +495,7 @@ const REPAIR: CommandRow = CommandRow {
             "repaired",
             "write the sheet with the first repair to this file, if it is ahead of the second by a number; - is standard output"
         ),
+        DRAFT,
         Argument {
             against: Some("repaired"),
             ..JSON
@@ -497,7 +506,7 @@ const REPAIR: CommandRow = CommandRow {
     ],
 };
 
-/// `compare [--first-field] [--skip-others] [--json] [--rules FILE] [--merged OUT] WORDS LEXICON SHEET1 SHEET2`.
+/// `compare [--first-field] [--skip-others] [--draft] [--json] [--rules FILE] [--merged OUT] WORDS LEXICON SHEET1 SHEET2`.
 const COMPARE: CommandRow = CommandRow {
     name: "compare",
     asks: Asks::Game(GameCommand::Compare),
@@ -523,6 +532,11 @@ const COMPARE: CommandRow = CommandRow {
             Form::Option("OUT"),
             "merged",
             "write the merged record to this file, if one choice of the lines is ahead of all others; - is standard output"
+        ),
+        flag!(
+            "draft",
+            "read SHEET1 and SHEET2 as drafts, whose event lines may lack the total, or the score and the total",
+            None
         ),
         Argument {
             against: Some("merged"),
@@ -733,7 +747,7 @@ const TIDY: CommandRow = CommandRow {
     arguments: &[GAME],
 };
 
-/// `board [--json] [--rules FILE] [--before LINE] GAME`.
+/// `board [--draft] [--json] [--rules FILE] [--before LINE] GAME`.
 const BOARD: CommandRow = CommandRow {
     name: "board",
     asks: Asks::Board,
@@ -744,7 +758,7 @@ const BOARD: CommandRow = CommandRow {
         "0   the board is printed",
         "3   the rules text or the record is bad, or no event is on the line or after it"
     ),
-    arguments: &[GAME, BEFORE, JSON, RULES],
+    arguments: &[GAME, BEFORE, DRAFT, JSON, RULES],
 };
 
 /// `serve [--first-field] [--skip-others] [--rules FILE] WORDS LEXICON`.

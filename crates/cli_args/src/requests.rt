@@ -47,11 +47,12 @@ pub enum Request<'a> {
     Tidy {
         game: &'a str,
     },
-    /// To write the board of a record, before a line if one is named; `json` asks for an object.
+    /// To write the board of a record, or of a draft if `draft` says so, before a line if one is named; `json` asks for an object.
     Board {
         rules: Option<&'a str>,
         before: Option<u32>,
         game: &'a str,
+        draft: bool,
         json: bool,
     },
     /// To answer requests by rules and a word list with its lexicon.
@@ -200,6 +201,7 @@ fn board_of<'a>(names: &ArgMatches<'a>) -> Option<Request<'a>> {
         rules: names.get_str("rules"),
         before: names.get_one::<u32>("before"),
         game: names.get_str("GAME")?,
+        draft: names.get_flag("draft"),
         json: names.get_flag("json"),
     })
 }

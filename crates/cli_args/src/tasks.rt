@@ -19,8 +19,13 @@ pub struct GameRequest<'a> {
 pub enum Asked<'a> {
     /// This of the game of one sheet, or of a draft.
     OfOne(Task<'a>),
-    /// To compare it with the sheet of this name.
-    WithAnother(&'a str),
+    /// To compare it with another sheet.
+    WithAnother {
+        /// The name of the other sheet.
+        second: &'a str,
+        /// Whether both are drafts.
+        draft: bool,
+    },
 }
 
 /// What the matches of a command about the game of a record ask for.
@@ -64,12 +69,19 @@ fn asked_of<'a>(command: GameCommand, names: &ArgMatches<'a>, kept: bool) -> Opt
             line: names.get_one::<u32>("LINE"),
             likely: true,
             lead: !names.get_flag("json"),
+            draft: names.get_flag("draft"),
         },
         GameCommand::Repair => Task::Repair {
             number: Some(names.get_one::<u32>("number").unwrap_or(FEW_REPAIRS)),
             repaired: kept,
+            draft: names.get_flag("draft"),
         },
-        GameCommand::Compare => return Some(Asked::WithAnother(names.get_str("SHEET2")?)),
+        GameCommand::Compare => {
+            return Some(Asked::WithAnother {
+                second: names.get_str("SHEET2")?,
+                draft: names.get_flag("draft"),
+            });
+        }
         GameCommand::Page => Task::Page { likely: true },
         GameCommand::Annotate => Task::Annotate {
             number: Some(names.get_one::<u32>("top").unwrap_or(1)),

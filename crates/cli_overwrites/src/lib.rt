@@ -31,7 +31,7 @@ fn lost_of_game<R: Runtime>(
 ) -> Option<&'static str> {
     let out = request.out?;
     let (first, second) = match request.asked {
-        Asked::WithAnother(second) => ("SHEET1", second),
+        Asked::WithAnother { second, .. } => ("SHEET1", second),
         Asked::OfOne(Task::Fill { .. }) => ("DRAFT", ""),
         Asked::OfOne(_) => ("GAME", ""),
     };

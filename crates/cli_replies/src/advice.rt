@@ -9,7 +9,11 @@ use std::rt::Runtime;
 
 /// Whether the report on a bad record says itself what is wrong with it, or the text need not be a record.
 fn says_why(task: Task<'_>) -> bool {
-    matches!(task, Task::Explain { .. } | Task::Fill { .. } | Task::Next)
+    match task {
+        Task::Explain { .. } | Task::Fill { .. } | Task::Next => true,
+        Task::Repair { draft, .. } => draft,
+        _ => false,
+    }
 }
 
 /// If a sheet is not a game, says why, in addition to the report on it, unless that says it itself. Says which lines are not read although they look like
@@ -59,6 +63,15 @@ pub fn advise_first<R: Runtime + AllocGlobal>(rt: &R, name: &str, first: &SheetF
         } else {
             advise_bad_record(rt, name, front);
         }
+    }
+    advise_unread(rt, name, front);
+}
+
+/// The same for one of two drafts: the report says itself what is wrong with a text that is none.
+pub fn advise_draft<R: Runtime + AllocGlobal>(rt: &R, name: &str, draft: &SheetFile<Source<R>>) {
+    let front = draft.inner().front();
+    if is_record(rt.alloc(), front) && !has_game(rt.alloc(), front) {
+        advise_no_game(rt, name, front);
     }
     advise_unread(rt, name, front);
 }

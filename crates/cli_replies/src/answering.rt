@@ -132,7 +132,7 @@ fn answer_in<'a, R: Runtime + AllocGlobal>(
     }
     match asked {
         Asked::OfOne(task) => answer_one(rt, files, task, out, form),
-        Asked::WithAnother(second) => compare(rt, files, second, out, form),
+        Asked::WithAnother { second, draft } => compare(rt, files, second, out, draft, form),
     }
 }
 

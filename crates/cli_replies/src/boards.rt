@@ -1,22 +1,51 @@
-//! `board --json`: the board of a record, as an object.
+//! `board --json` and `board --draft`: the board of a record or of a draft, as an object or in words.
 
 use crate::forms::Form;
 use crate::kept_files::KeptFile;
 use crate::reports::report_beside;
 use cli_exits::{Exit, Trouble};
 use cli_files::{
-    STANDARD_OUTPUT, UsedOutput, advise_unread, given_up, open_rules, open_sheet, reported_in_json,
+    RulesFile, STANDARD_OUTPUT, SheetFile, Source, UsedOutput, advise_no_game, advise_unread,
+    give_hint, given_up, is_record, open_rules, open_sheet, reported_in_json, rules_front,
     used_rules, used_source,
 };
-use reply_calls::answer_board;
+use cli_hints::Known;
+use reply_calls::{Ended, answer_board};
 use std::rt::Runtime;
 
-/// Opens a rules text, if one is named, and a record, makes the call, and says which lines are not read.
+/// Says on standard error what helps beside the answer.
+fn help<R: Runtime + AllocGlobal>(
+    rt: &R,
+    game: &str,
+    form: Form,
+    rules: &RulesFile<R::File>,
+    sheet: &SheetFile<Source<R>>,
+    ended: &Ended,
+) {
+    let front = sheet.inner().front();
+    if form == Form::Words {
+        if let Some(decision) = &ended.refused {
+            let known = Known {
+                rules: rules_front(rules),
+                ..Known::NOTHING
+            };
+            return give_hint(rt, decision.report.as_slice(), &known);
+        }
+        if is_record(rt.alloc(), front) {
+            advise_no_game(rt, game, front);
+        }
+    }
+    advise_unread(rt, game, front);
+}
+
+/// Opens a rules text, if one is named, and a record or a draft, makes the call, and says what helps beside the answer.
 fn show_files<'a, R: Runtime + AllocGlobal>(
     rt: &R,
     rules: Option<&'a str>,
     before: Option<u32>,
     game: &'a str,
+    draft: bool,
+    form: Form,
 ) -> Result<Exit, Trouble<'a>> {
     let mut stated = open_rules(rt, rules, false)?;
     let mut sheet = open_sheet(rt, game)?;
@@ -25,16 +54,20 @@ fn show_files<'a, R: Runtime + AllocGlobal>(
     let outcome = answer_board(
         rt.alloc(),
         before,
+        draft,
         &mut stated,
         &mut sheet,
-        &Form::Object,
+        &form,
         &mut kept,
         &mut report,
     );
-    advise_unread(rt, game, sheet.inner().front());
     match outcome {
-        Ok(ended) => Ok(ended.exit),
+        Ok(ended) => {
+            help(rt, game, form, &stated, &sheet, &ended);
+            Ok(ended.exit)
+        }
         Err(fault) => {
+            advise_unread(rt, game, sheet.inner().front());
             let inputs = [used_rules(rules, &stated.text), used_source(game, &sheet)];
             let writer = report.into_inner();
             Err(given_up(fault, &inputs, UsedOutput::new(STANDARD_OUTPUT, &writer)))
@@ -42,12 +75,23 @@ fn show_files<'a, R: Runtime + AllocGlobal>(
     }
 }
 
-/// Writes the board of a record, before a line if one is named, as a JSON object; if the program cannot finish, the object says why.
+/// Writes the board of a record, or of a draft, before a line if one is named, as a JSON object; if the program cannot finish, the object says why.
 pub fn board_in_json<'a, R: Runtime + AllocGlobal>(
     rt: &R,
     rules: Option<&'a str>,
     before: Option<u32>,
     game: &'a str,
+    draft: bool,
 ) -> Result<Exit, Trouble<'a>> {
-    reported_in_json(rt, show_files(rt, rules, before, game))
+    reported_in_json(rt, show_files(rt, rules, before, game, draft, Form::Object))
+}
+
+/// Writes the board of a draft, before a line if one is named, in words.
+pub fn board_of_draft<'a, R: Runtime + AllocGlobal>(
+    rt: &R,
+    rules: Option<&'a str>,
+    before: Option<u32>,
+    draft: &'a str,
+) -> Result<Exit, Trouble<'a>> {
+    show_files(rt, rules, before, draft, true, Form::Words)
 }

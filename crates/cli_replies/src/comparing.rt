@@ -1,6 +1,6 @@
 //! `compare`: two players' sheets of one game.
 
-use crate::advice::{advise_first, advise_second};
+use crate::advice::{advise_draft, advise_first, advise_second};
 use crate::answering::{hint, stopped};
 use crate::forms::Form;
 use crate::kept_files::KeptFile;
@@ -19,6 +19,7 @@ fn help<'a, R: Runtime + AllocGlobal>(
     rt: &R,
     files: GameFiles<'a>,
     second: &str,
+    draft: bool,
     form: Form,
     inputs: &Inputs<R::File, Source<R>>,
     sheets: &TwoSheets<SheetFile<Source<R>>>,
@@ -31,6 +32,9 @@ fn help<'a, R: Runtime + AllocGlobal>(
     } else if form == Form::Object {
         advise_unread(rt, second, sheets.second.inner().front());
         advise_unread(rt, files.game, sheets.first.inner().front());
+    } else if draft {
+        advise_draft(rt, second, &sheets.second);
+        advise_draft(rt, files.game, &sheets.first);
     } else {
         advise_second(rt, second, &sheets.first, &sheets.second);
         advise_first(rt, files.game, &sheets.first);
@@ -43,6 +47,7 @@ pub(crate) fn compare<'a, R: Runtime + AllocGlobal>(
     files: GameFiles<'a>,
     second: &'a str,
     out: Option<&'a str>,
+    draft: bool,
     form: Form,
 ) -> Result<Exit, Trouble<'a>> {
     let mut inputs = open_inputs(rt, files.rules, files.pair, false)?;
@@ -55,6 +60,7 @@ pub(crate) fn compare<'a, R: Runtime + AllocGlobal>(
     let outcome = answer_sheets(
         rt.alloc(),
         out.is_some(),
+        draft,
         &mut inputs.rules,
         &mut inputs.words,
         &mut inputs.lexicon,
@@ -66,7 +72,7 @@ pub(crate) fn compare<'a, R: Runtime + AllocGlobal>(
     report_others(rt, files.pair.words.name, &inputs.words);
     match outcome {
         Ok(ended) => {
-            help(rt, files, second, form, &inputs, &sheets, &ended);
+            help(rt, files, second, draft, form, &inputs, &sheets, &ended);
             Ok(ended.exit)
         }
         Err(fault) => {

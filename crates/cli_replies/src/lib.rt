@@ -15,5 +15,5 @@ mod reports;
 mod tops;
 
 pub use answering::answer_game;
-pub use boards::board_in_json;
+pub use boards::{board_in_json, board_of_draft};
 pub use pairs::{check_in_json, rule_on_words};

@@ -23,7 +23,7 @@ dropped_next (y ∷ xs) (suc i) d within = dropped_next xs i d (omega (arith, wi
 next_is : (i : ℕ) → suc i ≡ i + 1
 next_is i = omega arith
 
-dropped : {X : Type 0} (xs : List X) (i : ℕ) (d : X) → i < length xs → drop i xs ≡ get_or xs i d ∷ drop (i + 1) xs
+pub dropped : {X : Type 0} (xs : List X) (i : ℕ) (d : X) → i < length xs → drop i xs ≡ get_or xs i d ∷ drop (i + 1) xs
 dropped xs i d within = dropped_next xs i d within ∙ ap (λ k. get_or xs i d ∷ drop k xs) (next_is i)
 
 -- one more pair is taken
@@ -42,7 +42,7 @@ pair_more owner whose choice number next rack following first second pairs i d e
     ∙ ap (λ (xs : List Pair). events ++ merged_from owner whose choice number rack first second xs) (sym (dropped pairs i d within))
     ∙ so_far
 
-past_all : {X : Type 0} (xs : List X) (i : ℕ) → length xs ≤ i → drop i xs ≡ []
+pub past_all : {X : Type 0} (xs : List X) (i : ℕ) → length xs ≤ i → drop i xs ≡ []
 past_all [] zero all = refl
 past_all [] (suc i) all = refl
 past_all (x ∷ xs) zero all = absurd (omega (arith, all))

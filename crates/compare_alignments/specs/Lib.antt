@@ -5,3 +5,4 @@ pub mod Fronts
 pub mod Merging
 pub mod Laws
 pub mod Seats
+pub mod Lacking

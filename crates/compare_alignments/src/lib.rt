@@ -10,6 +10,7 @@ mod choices;
 mod copying;
 mod costs;
 mod fronts;
+mod lacking;
 mod laws;
 mod merging;
 mod pairs;
@@ -24,6 +25,7 @@ pub use choices::{
     count_varied, count_with_own_racks, is_chosen,
 };
 pub use copying::copy_event;
+pub use lacking::{Lacks, lack_at, merge_lacks};
 pub use laws::{law_of_itself, law_of_merging};
 pub use merging::{NumbersOf, merge, own_side};
 pub use pairs::{Pair, Side};

@@ -130,7 +130,7 @@ fn fuller_side(first: Option<&Event>, second: Option<&Event>) -> Side
 }
 
 /// Which side is taken for a pair.
-fn side_of(
+pub(crate) fn side_of(
     choice: usize,
     number: usize,
     pair: &Pair,

@@ -1,8 +1,9 @@
 -- What is found of two sheets.
-use Rattle.std.specs.Prelude.{◌≡◌, ℕ, List}
+use Rattle.std.specs.Prelude.{◌≡◌, ℕ, List, Option}
 use Rattle.ref_tiles.specs.declared.rulebook.Rules.{Rules}
 use Rattle.gcg_read.specs.declared.records.Record.{Record}
 use Rattle.compare_repaired.specs.Repaired.{best_choice, best_repair, AreRepaired}
+use Rattle.compare_alignments.specs.declared.lacking.Lacks.{Lacks}
 use Rattle.compare_choices.specs.declared.sheets.Sheets.{Sheets}
 use Rattle.compare_choices.specs.Sheets.{AreSheets}
 use Rattle.compare_choices.specs.Seats.{in_seats_of}
@@ -34,7 +35,8 @@ pub record IsAnswerOn (rules : Rules) (list : List (List ℕ)) (s : Sheets) (a :
   pub sheets : a.sheets ≡ s
   pub found : IsFound rules list a
 
--- What is found of two records of one game: the players of the second are put in the seats of those of the first, if their names say so.
-pub record IsComparisonAnswer (rules : Rules) (list : List (List ℕ)) (first second : Record) (a : ComparisonAnswer) : Type 0 where
-  pub sheets : AreSheets first (in_seats_of first.players second) a.sheets
+-- What is found of two records of one game: the players of the second are put in the seats of those of the first, if their names say so. If they are those
+-- of drafts, these numbers are missing.
+pub record IsComparisonAnswer (rules : Rules) (list : List (List ℕ)) (first second : Record) (lacks : Option Lacks) (a : ComparisonAnswer) : Type 0 where
+  pub sheets : AreSheets first (in_seats_of first.players second) lacks a.sheets
   pub found : IsFound rules list a

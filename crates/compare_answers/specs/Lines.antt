@@ -1,7 +1,6 @@
 -- What the rules say of the lines of a pair.
 use Rattle.std.specs.Prelude.{◌≡◌, ℕ, ℤ, ◌==◌, Bool, true, false, Option, Some, None, if◌then◌else◌}
 use Rattle.std.specs.Ordering.{int_eq}
-use Rattle.gcg_read.specs.declared.events.Event.{Event}
 use Rattle.compare_alignments.specs.declared.pairs.Pair.{Pair}
 use Rattle.compare_alignments.specs.declared.pairs.Side.TheVariants.{First, Second}
 use Rattle.compare_alignments.specs.Merging.{chosen_side}
@@ -12,7 +11,7 @@ use Rattle.compare_choices.specs.declared.trials.Trial.{Trial}
 use Rattle.compare_choices.specs.declared.trials.Trial.TheVariants as trial
 use Rattle.compare_choices.specs.Comparisons.{flipped}
 use Rattle.compare_answers.specs.Places.{IsPairOf}
-use Rattle.compare_answers.specs.Scores.{line_on, score_of, right_score, other_side}
+use Rattle.compare_answers.specs.Scores.{score_on, right_score, other_side}
 use Rattle.compare_answers.specs.declared.lines.OtherLine.{OtherLine}
 use Rattle.compare_answers.specs.declared.lines.OtherLine.TheVariants as other
 use Rattle.compare_answers.specs.declared.lines.LinesAnswer.{LinesAnswer}
@@ -36,12 +35,12 @@ IsOtherLine s p index number b (Some (trial.Stops stopped)) o = IsRefused s (fli
 IsOtherLine s p index number b (Some trial.NoGame) o = o ≡ other.NoDeal
 IsOtherLine s p index number b (Some trial.Open) o = o ≡ other.NoDealFound
 IsOtherLine s p index number b (Some (trial.Game game)) o =
-    o ≡ (if game.cost == b.cost then other.AsGood else worse (score_of (line_on s p (other_side (chosen_side b.choice number)))) (right_score s game index))
+    o ≡ (if game.cost == b.cost then other.AsGood else worse (score_on s p (other_side (chosen_side b.choice number))) (right_score s game index))
 
--- what is said of two lines that agree, if the rules give this score
-abbrev pub other_scores : Option Event → Option Event → Option ℤ → LinesAnswer
-other_scores (Some e) (Some line) (Some right) = if int_eq e.score line.score then lines.Agree else lines.OtherScores right
-other_scores e line right = lines.Agree
+-- what is said of two lines that agree, by the scores that are written and the one that the rules give
+abbrev pub other_scores : (score other right : Option ℤ) → LinesAnswer
+other_scores (Some score) (Some other) (Some right) = if int_eq score other then lines.Agree else lines.OtherScores right
+other_scores score other right = lines.Agree
 
 -- lines that differ, of which the best choice takes one
 abbrev pub IsTaken : Sheets → Pair → (index number : ℕ) → Best → Option Trial → LinesAnswer → Type 0
@@ -51,7 +50,7 @@ IsTaken s p index number b flip a = ⊥
 abbrev pub IsLinesAnswerBy : (agrees : Bool) → Sheets → Pair → (index number : ℕ) → Option Best → Option Trial → LinesAnswer → Type 0
 IsLinesAnswerBy true s p index number None flip a = a ≡ lines.Agree
 IsLinesAnswerBy false s p index number None flip a = a ≡ lines.Differ
-IsLinesAnswerBy true s p index number (Some b) flip a = a ≡ other_scores (line_on s p First) (line_on s p Second) (right_score s b index)
+IsLinesAnswerBy true s p index number (Some b) flip a = a ≡ other_scores (score_on s p First) (score_on s p Second) (right_score s b index)
 IsLinesAnswerBy false s p index number (Some b) flip a = IsTaken s p index number b flip a
 
 -- What is said of the lines of the pair at an index: if they agree, the right score if theirs are not the same; if they differ, which of them the best

@@ -11,7 +11,7 @@ use crate::ends::{GameEnd, game_end};
 use crate::found::{WhyNotMerged, merged_record};
 use crate::furthest::stop_at;
 use crate::pairs::{PairAnswer, pair_answers};
-use compare_alignments::Side;
+use compare_alignments::{Lacks, Side};
 use compare_choices::{Comparison, Sheets, compare, in_seats_of};
 use compare_repaired::{RepairedChoices, repaired_choices};
 use gcg_read::Record;
@@ -80,7 +80,8 @@ fn answer_on(
     })
 }
 
-/// Compares two records of one game, by the rules and a word list.
+/// Compares two records of one game, by the rules and a word list. If they are those of drafts, `lacks` says what their lines lack; a number that is missing
+/// counts nowhere.
 ///
 /// It fails only if memory runs out.
 ///
@@ -97,11 +98,12 @@ pub fn answer_comparison(
     list: &WordList,
     first: Record,
     second: Record,
+    lacks: Option<Lacks>,
 ) -> Result<ComparisonAnswer, AllocError>
-    ensures { IfOk result (IsComparisonAnswer rules.now list.now first second) }
+    ensures { IfOk result (IsComparisonAnswer rules.now list.now first second lacks) }
 {
     let seated = in_seats_of(alloc, &first.players, second)?;
-    let sheets = Sheets::new(alloc, first, seated)?;
+    let sheets = Sheets::new(alloc, first, seated, lacks)?;
     let comparison = compare(alloc, rules, list, &sheets)?;
     let repaired = repaired_choices(alloc, rules, list, &sheets, &comparison)?;
     let answer = answer_on(alloc, rules, list, sheets, comparison, repaired)?;

@@ -5,11 +5,10 @@ ghost use Rattle.compare_choices.specs.Comparisons.{flipped};
 ghost use Rattle.compare_answers.specs.Lines.{worse, other_scores, IsRefused, IsOtherLine, IsLinesAnswer};
 
 use crate::places::pair_of;
-use crate::scores::{line_at, line_on, other_side, right_score, score_of};
+use crate::scores::{other_side, right_score, score_on};
 use compare_alignments::{Pair, Side, chosen_side};
 use compare_choices::{Best, Sheets, Stopped, Trial};
 use game_turns::RuleFault;
-use gcg_read::Event;
 use std::alloc::{AllocError, Global};
 
 /// What comes of the best choice with the other line of an item.
@@ -128,20 +127,20 @@ fn other_line(
                 return Ok(OtherLine::AsGood);
             }
             let side = other_side(chosen_side(best.choice, number));
-            let written = score_of(line_on(sheets, pair, side));
+            let written = score_on(sheets, pair, side);
             let right = right_score(alloc, sheets, game, index)?;
             Ok(worse(written, right))
         }
     }
 }
 
-/// What is said of lines that agree, if the rules give this score.
-fn other_scores(event: Option<&Event>, other: Option<&Event>, right: Option<i32>) -> LinesAnswer
-    ensures { result ≡ other_scores (option_copied event.entry) (option_copied other.entry) right }
+/// What is said of lines that agree, by the scores that are written and the one that the rules give.
+fn other_scores(score: Option<i32>, other: Option<i32>, right: Option<i32>) -> LinesAnswer
+    ensures { result ≡ other_scores score other right }
 {
-    match (event, other, right) {
-        (Some(event), Some(other), Some(right)) => {
-            if event.score.value() == other.score.value() {
+    match (score, other, right) {
+        (Some(score), Some(other), Some(right)) => {
+            if score == other {
                 LinesAnswer::Agree
             } else {
                 LinesAnswer::OtherScores { right }
@@ -168,8 +167,8 @@ pub(crate) fn lines_answer(
     match best {
         Some(best) => {
             if pair.agrees {
-                let first = line_at(&sheets.first, pair.first);
-                let second = line_at(&sheets.second, pair.second);
+                let first = score_on(sheets, pair, Side::First);
+                let second = score_on(sheets, pair, Side::Second);
                 let right = right_score(alloc, sheets, best, index)?;
                 return Ok(other_scores(first, second, right));
             }

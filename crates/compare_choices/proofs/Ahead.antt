@@ -5,6 +5,7 @@ use Rattle.ref_tiles.specs.declared.rulebook.Rules.{Rules}
 use Rattle.gcg_read.specs.declared.events.Event.{Event}
 use Rattle.gcg_read.specs.declared.records.Record.{Record}
 use Rattle.game_deal.specs.Verdicts.{IsGame}
+use Rattle.compare_alignments.specs.declared.lacking.Lacks.{Lacks}
 use Rattle.compare_alignments.specs.declared.merging.NumbersOf.TheVariants.{Taken}
 use Rattle.compare_alignments.specs.declared.pairs.Pair.{Pair}
 use Rattle.compare_alignments.specs.Alignments.{own_pairs}
@@ -38,9 +39,9 @@ best_ahead rules list s end f b is best rivals remaining choice right before oth
     (subst (λ (xs : List ℕ). IsAccounted rules list right f.best f.rivals.items xs choice cost) remaining (is.others choice right before makes.is))))
     makes.game other
 
-pub own_events : (sheet : Record) (s : Sheets) (choice : ℕ) → AreSheets sheet sheet s → choice_events s Taken choice ≡ sheet.events
+pub own_events : (sheet : Record) (lacks : Option Lacks) (s : Sheets) (choice : ℕ) → AreSheets sheet sheet lacks s → choice_events s Taken choice ≡ sheet.events
 unfolding choice_events
-own_events sheet s choice is =
+own_events sheet lacks s choice is =
     let pairs : s.pairs.items ≡ own_pairs (length sheet.events) = is.itself refl in
     ap (λ (x : Record). merged s.owner Taken choice x.events s.second.events s.pairs.items) is.is_first
     ∙ ap (λ (x : Record). merged s.owner Taken choice sheet.events x.events s.pairs.items) is.is_second

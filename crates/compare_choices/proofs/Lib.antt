@@ -4,3 +4,4 @@ pub mod Wrong
 pub mod Racks
 pub mod Ahead
 pub mod FurthestStops
+pub mod LastLines

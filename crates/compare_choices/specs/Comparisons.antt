@@ -66,7 +66,7 @@ abbrev pub IsFurthestTo : Rules → (list : List (List ℕ)) → Sheets → (end
 IsFurthestTo rules list s end None = (choice : ℕ) → choice < end → IsAllowed rules list s choice
 IsFurthestTo rules list s end (Some stop) = IsFurthest rules list s end stop
 
--- The furthest stop of the choices that take each rack from the player's own sheet, since the rules do not look at stated racks; none is told if a choice
+-- The furthest stop of the choices that take each rack from the player's own sheet, since the rules do not look at stated racks; none is reported if a choice
 -- is known to make a game.
 abbrev pub IsFurthestBy : Rules → (list : List (List ℕ)) → Sheets → Option Best → Option Stop → Type 0
 IsFurthestBy rules list s None stop = IsFurthestTo rules list s (count_with_own_racks s.pairs.items) stop

@@ -1,4 +1,5 @@
 pub mod Sheets
+pub mod Lacking
 pub mod Choices
 pub mod Corrected
 pub mod Settling
@@ -7,4 +8,5 @@ pub mod Trials
 pub mod Comparisons
 pub mod Laws
 pub mod Seats
+pub mod Known
 pub mod Results

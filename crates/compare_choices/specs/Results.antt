@@ -1,5 +1,5 @@
 -- What two sheets say of the end of a game, and which racks they say differently.
-use Rattle.std.specs.Prelude.{◌≡◌, ℕ, List, Option, Some}
+use Rattle.std.specs.Prelude.{◌≡◌, ◌⊎◌, ◌↔◌, ℕ, ℤ, List, Option, Some, None, is_some, IsTrue}
 use Rattle.gcg_read.specs.declared.events.Event.{Event}
 use Rattle.gcg_read.specs.declared.events.Seat.{Seat}
 use Rattle.gcg_read.specs.declared.events.Seat.TheVariants.{First, Second}
@@ -9,20 +9,27 @@ use Rattle.compare_alignments.specs.declared.pairs.Pair.{Pair}
 use Rattle.compare_alignments.specs.Merging.{line_at}
 use Rattle.compare_choices.specs.declared.results.LastTotals.{LastTotals}
 use Rattle.compare_choices.specs.declared.results.Results.{Results}
+use Rattle.compare_alignments.specs.declared.pairs.Side.TheVariants as sheet
 use Rattle.compare_choices.specs.declared.sheets.Sheets.{Sheets}
+use Rattle.compare_choices.specs.Known.{total_on, IsStandingOn}
 
--- the last totals of a player on both sheets, and in the merged record
+-- a last total is the right one, or a draft lacks it
+abbrev pub Agrees : Sheets → (total right : Option ℤ) → Type 0
+Agrees s total right = (total ≡ right) ⊎ (IsTrue (is_some s.lacks) × (total ≡ None))
+
+-- the last totals of a player on both sheets, and in the merged record, and whether those of the sheets are right
 pub record AreTotals (s : Sheets) (right : List Event) (player : Seat) (t : LastTotals) : Type 0 where
-  pub first : t.first ≡ last_total player s.first.events
-  pub second : t.second ≡ last_total player s.second.events
+  pub first : t.first ≡ total_on s sheet.First player
+  pub second : t.second ≡ total_on s sheet.Second player
   pub merged : t.right ≡ last_total player right
+  pub agree : IsTrue t.agree ↔ (Agrees s t.first t.right × Agrees s t.second t.right)
 
 -- the last totals of both players, and who is ahead by each sheet and by the merged record
 pub record AreResults (s : Sheets) (right : List Event) (r : Results) : Type 0 where
   pub of_first : AreTotals s right First r.of_first
   pub of_second : AreTotals s right Second r.of_second
-  pub by_first : IsStandingIn s.first.events r.first
-  pub by_second : IsStandingIn s.second.events r.second
+  pub by_first : IsStandingOn s sheet.First r.first
+  pub by_second : IsStandingOn s sheet.Second r.second
   pub merged : IsStandingIn right r.right
 
 -- two lines with a rack each, and not the same

@@ -1,16 +1,21 @@
 //! What is wrong on two sheets with a choice.
-ghost use Rattle.std.specs.Prelude.{◌≡◌, ◌+◌, ◌+ℤ◌, ◌<◌, ◌≤◌, ℕ, List, length, min, if◌then◌else◌, Some, None, IfOk};
+ghost use Rattle.std.specs.Prelude.{◌≡◌, ◌+◌, ◌+ℤ◌, ◌<◌, ◌≤◌, ℕ, List, length, map, min, if◌then◌else◌, Some, None, IfOk};
 ghost use Rattle.std.specs.Ordering.{int_eq};
 ghost use Rattle.gcg_read.specs.Numerals.{IsPoints};
 ghost use Rattle.ref_tiles.specs.declared.rulebook.Rules.{Rules};
 ghost use Rattle.game_case.specs.Archiving.{unlisted_plays};
 ghost use Rattle.game_corrections.specs.WrongNumbers.{is_right_sum, wrong_at, wrong_lines};
+ghost use Rattle.game_walk.specs.Numbers.{numbers_in};
+ghost use Rattle.draft_numbers.specs.Numbers.{wrong_written};
 ghost use Rattle.compare_choices.specs.Choices.{wrong_on, costs, cost_of};
+ghost use Rattle.compare_choices.specs.Lacking.{choice_lacks};
 
 use crate::corrections::Corrected;
 use crate::sheets::Sheets;
-use compare_alignments::{NumbersOf, Side, count_other_racks};
+use compare_alignments::{Lacks, NumbersOf, Side, count_other_racks};
+use draft_numbers::wrong_written;
 use game_corrections::{had_before, is_right_sum};
+use game_walk::numbers_of;
 use gcg_read::Event;
 use std::alloc::{AllocError, Global};
 
@@ -87,6 +92,25 @@ fn count_wrong(written: &[Event], right: &[Event]) -> u128
     scores as u128 + sums as u128
 }
 
+/// How many numbers of a sheet are wrong with a choice between drafts.
+fn wrong_on_draft(
+    alloc: Global,
+    sheets: &Sheets,
+    lacks: &Lacks,
+    side: Side,
+    choice: usize,
+    written: &[Event],
+    right: &[Event],
+) -> Result<u128, AllocError>
+    ensures many { IfOk result (λ many. many ≡ length (wrong_written (choice_lacks sheets.now lacks.now side choice) written.now (map numbers_in right.now))) }
+    ensures few { IfOk result (λ many. many ≤ 36893488147419103230) }
+{
+    let missing = sheets.missing(alloc, lacks, side, choice)?;
+    let numbers = numbers_of(alloc, right)?;
+    let wrong = wrong_written(alloc, missing.as_slice(), written, numbers.as_slice())?;
+    Ok(wrong.len() as u128)
+}
+
 /// How many numbers of a sheet are wrong with a choice.
 fn wrong_on(
     alloc: Global,
@@ -99,7 +123,20 @@ fn wrong_on(
     ensures few { IfOk result (λ many. many ≤ 36893488147419103230) }
 {
     let written = sheets.events(alloc, NumbersOf::Sheet(side), choice)?;
-    Ok(count_wrong(written.as_slice(), right))
+    match &sheets.lacks {
+        None => Ok(count_wrong(written.as_slice(), right)),
+        Some(lacks) => {
+            wrong_on_draft(
+                alloc,
+                sheets,
+                lacks,
+                side,
+                choice,
+                written.as_slice(),
+                right,
+            )
+        }
+    }
 }
 
 /// The cost of `first` and `second` wrong numbers on the two sheets, `unlisted` plays with a word that is not in the list,

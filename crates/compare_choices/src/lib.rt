@@ -9,6 +9,7 @@ mod comparing;
 mod corrections;
 mod costs;
 mod finds;
+mod known;
 mod laws;
 mod results;
 mod seats;

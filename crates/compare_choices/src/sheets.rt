@@ -2,7 +2,8 @@
 ghost use Rattle.std.specs.Prelude.{◌≡◌, ◌+◌, ◌<◌, ◌≤◌, length, if◌then◌else◌};
 ghost use Rattle.compare_choices.specs.Sheets.{states_rack, racks_of, owner_of};
 
-use compare_alignments::{NumbersOf, Pair, align, merge};
+use compare_alignments::{Lacks, NumbersOf, Pair, Side, align, lack_at, merge, merge_lacks};
+use gcg_drafts::Missing;
 use gcg_read::{Event, Events, Record, Seat, same_seat};
 use std::alloc::{AllocError, Global};
 
@@ -61,18 +62,26 @@ pub struct Sheets {
     pub owner: Seat,
     /// The lines of both, aligned.
     pub pairs: Vec<Pair>,
+    /// What the lines of each lack, if they are drafts.
+    pub lacks: Option<Lacks>,
 }
 
 impl Sheets {
     ghost use Rattle.std.specs.Prelude.{IfOk};
     ghost use Rattle.compare_choices.specs.Sheets.{AreSheets};
     ghost use Rattle.compare_choices.specs.Choices.{choice_events};
+    ghost use Rattle.compare_choices.specs.Lacking.{choice_lacks, lack_on};
 
-    /// Aligns two sheets.
+    /// Aligns two sheets. If they are drafts, `lacks` says what their lines lack.
     ///
     /// It fails only if memory runs out.
-    pub fn new(alloc: Global, first: Record, second: Record) -> Result<Sheets, AllocError>
-        ensures { IfOk result (AreSheets first second) }
+    pub fn new(
+        alloc: Global,
+        first: Record,
+        second: Record,
+        lacks: Option<Lacks>,
+    ) -> Result<Sheets, AllocError>
+        ensures { IfOk result (AreSheets first second lacks) }
     {
         let owner = owner_of(first.events.as_slice(), second.events.as_slice());
         let pairs = align(alloc, first.events.as_slice(), second.events.as_slice())?;
@@ -81,6 +90,7 @@ impl Sheets {
             second,
             owner,
             pairs,
+            lacks,
         })
     }
 
@@ -102,5 +112,37 @@ impl Sheets {
             self.second.events.as_slice(),
             self.pairs.as_slice(),
         )
+    }
+
+    /// What is missing on the lines of a choice, if it is made of drafts, with the numbers of a sheet.
+    pub(crate) fn missing(
+        &self,
+        alloc: Global,
+        lacks: &Lacks,
+        sheet: Side,
+        choice: usize,
+    ) -> Result<Vec<Missing>, AllocError>
+        ensures { IfOk result (λ all. all.items ≡ choice_lacks self.now lacks.now sheet choice) }
+    {
+        merge_lacks(
+            alloc,
+            sheet,
+            choice,
+            self.first.events.as_slice(),
+            self.second.events.as_slice(),
+            lacks,
+            self.pairs.as_slice(),
+        )
+    }
+
+    /// What the line of a pair lacks on a sheet: nothing, if it is no draft or has no line there.
+    pub fn lack_on(&self, pair: &Pair, sheet: Side) -> Missing
+        ensures { result ≡ lack_on self.now pair.now sheet }
+    {
+        match (&self.lacks, sheet) {
+            (None, _) => Missing::Nothing,
+            (Some(lacks), Side::First) => lack_at(lacks.first.as_slice(), pair.first),
+            (Some(lacks), Side::Second) => lack_at(lacks.second.as_slice(), pair.second),
+        }
     }
 }

@@ -80,18 +80,18 @@ abbrev pub totals_value : Option GameEnd → Json
 totals_value None = array_of []
 totals_value (Some end) = array_of (totals_object seat.First end.results.of_first ∷ totals_object seat.Second end.results.of_second ∷ [])
 
--- who is ahead: by the right numbers, and by those of each sheet
+-- who is ahead: by the right numbers, and by those of each sheet, if it says so
 abbrev pub ahead_value : Option GameEnd → Json
 ahead_value None = null
 ahead_value (Some end) = standing_object end.results.right
 
 abbrev pub ahead_by_first : Option GameEnd → Json
 ahead_by_first None = null
-ahead_by_first (Some end) = standing_object end.results.first
+ahead_by_first (Some end) = or_null (option_map standing_object end.results.first)
 
 abbrev pub ahead_by_second : Option GameEnd → Json
 ahead_by_second None = null
-ahead_by_second (Some end) = standing_object end.results.second
+ahead_by_second (Some end) = or_null (option_map standing_object end.results.second)
 
 -- ---- the merged record in the normal form, or why there is none
 

@@ -7,10 +7,13 @@ use Rattle.json_trees.specs.Values.{Field, array_of, count, integer, object_of, 
 use Rattle.gcg_read.specs.declared.events.Event.{Event}
 use Rattle.gcg_read.specs.declared.records.Record.{Record}
 use Rattle.gcg_read.specs.Players.{player_of}
-use Rattle.gcg_write.specs.Normal.{event_text_of}
+use Rattle.gcg_drafts.specs.declared.missing.Missing.{Missing}
+use Rattle.draft_numbers.specs.Texts.{text_without}
 use Rattle.engine_stages.specs.declared.verdicts.GameFault.TheVariants as game
 use Rattle.compare_alignments.specs.declared.pairs.Pair.{Pair}
+use Rattle.compare_alignments.specs.declared.pairs.Side.TheVariants as side
 use Rattle.compare_choices.specs.declared.sheets.Sheets.{Sheets}
+use Rattle.compare_choices.specs.Lacking.{lack_on}
 use Rattle.compare_answers.specs.declared.lines.LinesAnswer.{LinesAnswer}
 use Rattle.compare_answers.specs.declared.lines.LinesAnswer.TheVariants as lines
 use Rattle.compare_answers.specs.declared.lines.OtherLine.{OtherLine}
@@ -23,27 +26,27 @@ use Rattle.json_base.specs.Words.{player_number}
 use Rattle.compare_json.specs.Choices.{refused_object}
 use Rattle.compare_json.specs.Names.{lines_name, other_name, own_rack_name, racks_name, side_name}
 
--- ---- a line of a sheet: its number, its player, the rack if one is stated, and what it says after that
+-- ---- a line of a sheet: its number, its player, the rack if one is stated, and what it says after that, without the numbers that it lacks
 
-abbrev pub line_fields : Record → Event → List Field
-line_fields r event =
+abbrev pub line_fields : Record → Missing → Event → List Field
+line_fields r missing event =
     (codes "line", count event.line)
     ∷ (codes "player", count (player_number event.player))
     ∷ (codes "nick", text (player_of r.players event.player).nick)
     ∷ (codes "rack", rack_value event.rack)
-    ∷ (codes "text", text (event_text_of event))
+    ∷ (codes "text", text (text_without missing event))
     ∷ []
 
-abbrev pub line_object : Record → Event → Json
-line_object r event = object_of (line_fields r event)
+abbrev pub line_object : Record → Missing → Event → Json
+line_object r missing event = object_of (line_fields r missing event)
 
-abbrev pub line_or_null : Record → Option Event → Json
-line_or_null r None = null
-line_or_null r (Some event) = line_object r event
+abbrev pub line_or_null : Record → Missing → Option Event → Json
+line_or_null r missing None = null
+line_or_null r missing (Some event) = line_object r missing event
 
 -- the one at a place, if there is a place
-abbrev pub line_at : Record → (place : Option ℕ) → Json
-line_at r place = line_or_null r (option_and_then (slice_get r.events) place)
+abbrev pub line_at : Record → Missing → (place : Option ℕ) → Json
+line_at r missing place = line_or_null r missing (option_and_then (slice_get r.events) place)
 
 -- ---- what is said of the lines
 
@@ -126,8 +129,8 @@ own_rack (racks.Other its player reason) = string (own_rack_name reason)
 
 abbrev pub difference_fields : Sheets → Pair → PairAnswer → List Field
 difference_fields sheets pair answer =
-    (codes "first", line_at sheets.first pair.first)
-    ∷ (codes "second", line_at sheets.second pair.second)
+    (codes "first", line_at sheets.first (lack_on sheets pair side.First) pair.first)
+    ∷ (codes "second", line_at sheets.second (lack_on sheets pair side.Second) pair.second)
     ∷ (codes "lines", string (lines_name answer.lines))
     ∷ (codes "taken", taken_value answer.lines)
     ∷ (codes "other", other_value (other_of answer.lines))

@@ -3,37 +3,44 @@ ghost use Rattle.std.specs.Prelude.{◌≡◌, ◌<◌, Some, IfOk, length, opti
 ghost use Rattle.std.specs.List.{HoldsAt};
 ghost use Rattle.json_trees.specs.Trees.{view};
 ghost use Rattle.json_trees.specs.Values.{text};
-ghost use Rattle.gcg_write.specs.Normal.{event_text_of};
+ghost use Rattle.draft_numbers.specs.Texts.{text_without};
 ghost use Rattle.compare_json.specs.Differences.{are_same, difference_at, difference_object, differences_value, do_agree, is_same, line_at, line_object, other_of, other_value, own_rack, own_sheet, refused_value, refused_with, right_on, right_value, taken_value, unless_same, unless_same_at, written_on, written_value};
 
 use crate::choices::refused_tree;
 use crate::names::{lines_name, other_name, own_rack_name, racks_name, side_name};
-use compare_alignments::Pair;
+use compare_alignments::{Pair, Side};
 use compare_answers::{LinesAnswer, OtherLine, PairAnswer, RacksAnswer};
 use compare_choices::Sheets;
+use draft_numbers::push_event_text;
 use engine_stages::GameFault;
+use gcg_drafts::Missing;
 use gcg_read::{Event, Record};
-use gcg_write::event_text;
 use json_base::{item_at, number_of, rack_tree};
 use json_trees::{
     Tree, array, count_tree, integer_tree, name_tree, null_tree, object, push_if, text_tree,
 };
 use std::alloc::{AllocError, Global};
 
-/// What the line at a place says after its rack.
-fn said_at(alloc: Global, game: &Record, place: usize) -> Result<Tree, AllocError>
+/// What the line at a place says after its rack, without the numbers that it lacks.
+fn said_at(alloc: Global, game: &Record, place: usize, missing: Missing) -> Result<Tree, AllocError>
     requires { place < length game.now.events }
-    ensures { IfOk result (λ tree. HoldsAt (λ event. view tree ≡ text (event_text_of event)) game.now.events place) }
+    ensures { IfOk result (λ tree. HoldsAt (λ event. view tree ≡ text (text_without missing event)) game.now.events place) }
 {
     let mut text = Vec::new(alloc);
-    event_text(game, place, &mut text)?;
+    push_event_text(&mut text, game, place, missing)?;
     text_tree(alloc, text.as_slice())
 }
 
-/// A line of a sheet.
-fn line_of(alloc: Global, game: &Record, event: &Event, said: Tree) -> Result<Tree, AllocError>
-    requires { view said ≡ text (event_text_of event.now) }
-    ensures { IfOk result (λ tree. view tree ≡ line_object game.now event.now) }
+/// A line of a sheet, which lacks these numbers.
+fn line_of(
+    alloc: Global,
+    game: &Record,
+    missing: Missing,
+    event: &Event,
+    said: Tree,
+) -> Result<Tree, AllocError>
+    requires { view said ≡ text (text_without missing event.now) }
+    ensures { IfOk result (λ tree. view tree ≡ line_object game.now missing event.now) }
 {
     let nick = text_tree(alloc, game.players.of(event.player).nick.as_bytes())?;
     let rack = rack_tree(alloc, &event.rack)?;
@@ -47,24 +54,34 @@ fn line_of(alloc: Global, game: &Record, event: &Event, said: Tree) -> Result<Tr
     Ok(object(fields))
 }
 
-/// The line at a place of a sheet, if there is one.
-fn line_tree(alloc: Global, game: &Record, place: usize) -> Result<Tree, AllocError>
-    ensures { IfOk result (λ tree. view tree ≡ line_at game.now (Some place)) }
+/// The line at a place of a sheet, if there is one, which lacks these numbers.
+fn line_tree(
+    alloc: Global,
+    game: &Record,
+    missing: Missing,
+    place: usize,
+) -> Result<Tree, AllocError>
+    ensures { IfOk result (λ tree. view tree ≡ line_at game.now missing (Some place)) }
 {
     if place >= game.events.len() {
         return Ok(null_tree());
     }
     let event = &game.events.as_slice()[place];
-    let said = said_at(alloc, game, place)?;
-    line_of(alloc, game, event, said)
+    let said = said_at(alloc, game, place, missing)?;
+    line_of(alloc, game, missing, event, said)
 }
 
-/// The line at a place of a sheet, if there is a place.
-fn line_at(alloc: Global, game: &Record, place: Option<usize>) -> Result<Tree, AllocError>
-    ensures { IfOk result (λ tree. view tree ≡ line_at game.now place) }
+/// The line at a place of a sheet, if there is a place, which lacks these numbers.
+fn line_at(
+    alloc: Global,
+    game: &Record,
+    missing: Missing,
+    place: Option<usize>,
+) -> Result<Tree, AllocError>
+    ensures { IfOk result (λ tree. view tree ≡ line_at game.now missing place) }
 {
     match place {
-        Some(place) => line_tree(alloc, game, place),
+        Some(place) => line_tree(alloc, game, missing, place),
         None => Ok(null_tree()),
     }
 }
@@ -209,8 +226,10 @@ fn difference_tree(
 ) -> Result<Tree, AllocError>
     ensures { IfOk result (λ tree. view tree ≡ difference_object sheets.now pair.now answer.now) }
 {
-    let first = line_at(alloc, &sheets.first, pair.first)?;
-    let second = line_at(alloc, &sheets.second, pair.second)?;
+    let lack = sheets.lack_on(pair, Side::First);
+    let first = line_at(alloc, &sheets.first, lack, pair.first)?;
+    let lack = sheets.lack_on(pair, Side::Second);
+    let second = line_at(alloc, &sheets.second, lack, pair.second)?;
     let other = other_of(&answer.lines);
     let refused = refused_or_null(alloc, sheets, other)?;
     let fields = vec![in alloc;

@@ -1,10 +1,13 @@
 //! How the game ends, as trees.
-ghost use Rattle.std.specs.Prelude.{◌≡◌, IfOk};
+ghost use Rattle.std.specs.Prelude.{◌≡◌, IfOk, option_map};
 ghost use Rattle.json_trees.specs.Trees.{view};
+ghost use Rattle.json_trees.specs.Values.{or_null};
+ghost use Rattle.json_base.specs.Players.{standing_object};
 ghost use Rattle.compare_json.specs.Answers.{ahead_by_first, ahead_by_second, ahead_value, ending_value, totals_object, totals_value};
 
 use compare_answers::GameEnd;
 use compare_choices::LastTotals;
+use game_corrections::Standing;
 use gcg_read::{Points, Seat};
 use json_base::{ending_name, number_of, standing_tree};
 use json_trees::{Tree, array, count_tree, integer_or_null, name_tree, null_tree, object};
@@ -68,12 +71,22 @@ pub(crate) fn ahead_tree(alloc: Global, end: &Option<GameEnd>) -> Result<Tree, A
     }
 }
 
+/// Who is ahead; null if a sheet does not say so.
+fn known_standing(alloc: Global, standing: &Option<Standing>) -> Result<Tree, AllocError>
+    ensures { IfOk result (λ tree. view tree ≡ or_null (option_map standing_object standing.now)) }
+{
+    match standing {
+        Some(standing) => standing_tree(alloc, standing),
+        None => Ok(null_tree()),
+    }
+}
+
 /// Who is ahead by the numbers of the first sheet.
 pub(crate) fn ahead_by_first(alloc: Global, end: &Option<GameEnd>) -> Result<Tree, AllocError>
     ensures { IfOk result (λ tree. view tree ≡ ahead_by_first end.now) }
 {
     match end {
-        Some(end) => standing_tree(alloc, &end.results.first),
+        Some(end) => known_standing(alloc, &end.results.first),
         None => Ok(null_tree()),
     }
 }
@@ -83,7 +96,7 @@ pub(crate) fn ahead_by_second(alloc: Global, end: &Option<GameEnd>) -> Result<Tr
     ensures { IfOk result (λ tree. view tree ≡ ahead_by_second end.now) }
 {
     match end {
-        Some(end) => standing_tree(alloc, &end.results.second),
+        Some(end) => known_standing(alloc, &end.results.second),
         None => Ok(null_tree()),
     }
 }

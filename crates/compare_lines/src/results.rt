@@ -16,7 +16,7 @@ fn push_points(text: &mut Vec<u8>, points: Option<Points>) -> Result<(), AllocEr
 
 /// Appends the last totals of a player, if they are not all the same.
 fn push_totals(text: &mut Vec<u8>, nick: &[u8], totals: &LastTotals) -> Result<(), AllocError> {
-    if totals.first == totals.second && totals.first == totals.right {
+    if totals.agree {
         return Ok(());
     }
     say(
@@ -65,15 +65,18 @@ fn push_standing(
     }
 }
 
-/// Appends who has more points by a sheet, if that is not what the merged record says.
+/// Appends who has more points by a sheet, if it says so and that is not what the merged record says.
 fn push_other_standing(
     text: &mut Vec<u8>,
     players: &Players,
     sheet: &'static str,
-    standing: Standing,
+    standing: Option<Standing>,
     right: Standing,
     complete: bool,
 ) -> Result<(), AllocError> {
+    let Some(standing) = standing else {
+        return Ok(());
+    };
     if standing == right {
         return Ok(());
     }

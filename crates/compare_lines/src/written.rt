@@ -1,10 +1,11 @@
 //! Lines as they are written on a sheet.
 
-use compare_alignments::Pair;
+use compare_alignments::{Pair, Side};
 use compare_choices::Sheets;
+use draft_numbers::push_event_text;
 use explain_parts::{Part, say};
+use gcg_drafts::Missing;
 use gcg_read::{Event, Record, same_seat};
-use gcg_write::event_text;
 use std::alloc::AllocError;
 
 /// The event at a place, if there is a place.
@@ -34,11 +35,12 @@ pub(crate) fn push_numbers(
     push_line_number(text, event_at(&sheets.second, pair.second))
 }
 
-/// Appends what a line says after its rack, with its player if `named` says so.
+/// Appends what a line says after its rack, without the numbers that it lacks, and with its player if `named` says so.
 fn push_after_rack(
     text: &mut Vec<u8>,
     record: &Record,
     place: Option<usize>,
+    missing: Missing,
     named: bool,
 ) -> Result<(), AllocError> {
     let Some(place) = place else {
@@ -57,7 +59,7 @@ fn push_after_rack(
             ],
         )?;
     }
-    event_text(record, place, text)
+    push_event_text(text, record, place, missing)
 }
 
 /// Whether the lines of a pair are of different players.
@@ -79,7 +81,9 @@ pub(crate) fn push_pair(
     let named = differ_in_player(sheets, pair);
     push_numbers(text, sheets, pair)?;
     say(text, &[Part::Say(": ")])?;
-    push_after_rack(text, &sheets.first, pair.first, named)?;
+    let missing = sheets.lack_on(pair, Side::First);
+    push_after_rack(text, &sheets.first, pair.first, missing, named)?;
     say(text, &[Part::Say(" | ")])?;
-    push_after_rack(text, &sheets.second, pair.second, named)
+    let missing = sheets.lack_on(pair, Side::Second);
+    push_after_rack(text, &sheets.second, pair.second, missing, named)
 }

@@ -77,7 +77,7 @@ fn tried_of(
     Ok(tried)
 }
 
-/// The same, if no choice makes a game or is left open.
+/// The same, if no choice makes a game or is left open. None are looked for if the sheets are drafts that lack numbers.
 fn tried_by(
     alloc: Global,
     rules: &Rules,
@@ -88,6 +88,9 @@ fn tried_by(
     ensures { IfOk result (λ tried. AreTried rules.now list.now sheets.now find.now tried.items) }
 {
     if find.best.is_some() || !find.remaining.is_empty() {
+        return Ok(Vec::new(alloc));
+    }
+    if sheets.lacks.is_some() {
         return Ok(Vec::new(alloc));
     }
     tried_of(alloc, rules, list, sheets)

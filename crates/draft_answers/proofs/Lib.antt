@@ -4,5 +4,7 @@ pub mod Readable
 pub mod Sheets
 pub mod Whole
 pub mod Onlys
-pub mod Reading
+pub mod ReadTexts
 pub mod Movers
+pub mod Carried
+pub mod BoardSheets

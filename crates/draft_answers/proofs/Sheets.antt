@@ -26,9 +26,10 @@ use Rattle.gcg_drafts.specs.Drafts.{IsDraft, IsFaultOf}
 use Rattle.gcg_drafts.specs.Texts.{completed_text}
 use Rattle.draft_answers.specs.declared.faults.DraftFault.{DraftFault}
 use Rattle.draft_answers.specs.declared.filled.FilledDraft.{FilledDraft}
+use Rattle.draft_answers.specs.declared.making.DraftSheet.{DraftSheet}
 use Rattle.draft_answers.specs.Faults.{reported_fault}
 use Rattle.draft_answers.specs.Filling.{filled_events, has_missing, sheet_of}
-use Rattle.draft_answers.specs.Filled.{AreFilled, IsAnswerOf, IsCutAnswer, IsDrafted, IsFilled, IsNoDraft, IsFillOf, too_long}
+use Rattle.draft_answers.specs.Filled.{AreFilled, IsAnswerOf, IsCutAnswer, IsDrafted, IsFilled, IsNoDraft, IsFillOf, IsSheetIn, IsSheetOf, too_long}
 use Rattle.draft_answers.specs.Given.{read_of}
 use Rattle.draft_answers.proofs.Readable.{is_sheet}
 
@@ -99,7 +100,7 @@ reported_by (Some other) false refusal answer reported some lacks cut rules list
 reported_by (Some other) true refusal answer reported some lacks cut rules list sheet is =
     record { whole = answer; is = is; cut = subst (λ (r : Refusal). IsCutAnswer r.line answer reported) (sym (same_Some other refusal some)) cut }
 
--- what is told of an answer if a line is refused and a number is missing
+-- what is reported of an answer if a line is refused and a number is missing
 pub if_cut : {E : Type 0} (stopped : Option Refusal) (lacking : Bool) (refusal : Refusal) (answer : AuditAnswer) (r : Result AuditAnswer E) → stopped ≡ Some refusal → lacking ≡ true
     → IfOk r (IsCutAnswer refusal.line answer)
     → IfOk r (λ reported. (rules : Rules) (list : List (List ℕ)) (sheet : List ℕ) → IsAuditAnswer rules list sheet answer → IsAnswerOf stopped lacking rules list sheet reported)
@@ -142,3 +143,17 @@ if_answered rules list text f sheet slice lacking given answer same short ok is 
 pub no_draft : (text : List ℕ) (fault : ReadFault) (f : DraftFault) → IsFaultOf text fault → (fault.why ≡ why.NoMemory → ⊥) → f ≡ reported_fault text fault → IsNoDraft text f
 no_draft text fault f (inl none) known reported = absurd (known (ap (λ (w : ReadFault). w.why) none))
 no_draft text fault f (inr fails) known reported = record { fault = fault; fails = fails; is = reported }
+
+pub not_filled : (rules : Rules) (list other : List (List ℕ)) (text : List ℕ) (f : DraftFault) → IsSheetIn rules other text (Err f) → IsFillOf rules list text (Err f)
+not_filled rules list other text f is = inl is
+
+-- ---- the sheet alone
+
+pub short_sheet : (rules : Rules) (list : List (List ℕ)) (text : List ℕ) (s : DraftSheet) → IsSheetIn rules list text (Ok s) → length s.text.items ≤ most_bytes
+    → IsSheetOf rules list text (Ok s)
+short_sheet rules list text s is short = record { drafted = is; short = short }
+
+pub long_draft : (rules : Rules) (list : List (List ℕ)) (text : List ℕ) (s : DraftSheet) (f : DraftFault) → IsSheetIn rules list text (Ok s) → most_bytes < length s.text.items
+    → f ≡ too_long → IsSheetOf rules list text (Err f)
+long_draft rules list text s f is long named =
+    inr (record { fault = named; lacks = s.lacks.items; stopped = s.stopped; sheet = s.text.items; drafted = is; long = long })

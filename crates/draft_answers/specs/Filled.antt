@@ -1,5 +1,5 @@
 -- A draft that is filled: its missing numbers are the right ones, and its written ones are compared with them.
-use Rattle.std.specs.Prelude.{◌≡◌, ◌⊎◌, ℕ, ◌<◌, nat_lt, Bool, true, false, List, length, Option, Some, None, Result, Ok, Err}
+use Rattle.std.specs.Prelude.{◌≡◌, ◌⊎◌, ℕ, ◌<◌, ◌≤◌, nat_lt, Bool, true, false, List, length, Option, Some, None, Result, Ok, Err}
 use Rattle.std.specs.List.{filter}
 use Rattle.ref_tiles.specs.declared.rulebook.Rules.{Rules}
 use Rattle.gcg_read.specs.declared.events.Event.{Event}
@@ -16,10 +16,13 @@ use Rattle.sheet_audit.specs.declared.answers.AuditAnswer.{AuditAnswer}
 use Rattle.sheet_audit.specs.declared.reported.ReportedNumber.{ReportedNumber}
 use Rattle.sheet_audit.specs.declared.reported.ReportedNumber.TheVariants as shown
 use Rattle.sheet_audit.specs.Answers.{IsAuditAnswer}
+use Rattle.gcg_drafts.specs.declared.drafts.Draft.{Draft}
+use Rattle.gcg_drafts.specs.Drafts.{IsDraft}
 use Rattle.gcg_drafts.specs.declared.missing.Missing.{Missing}
 use Rattle.gcg_drafts.specs.Texts.{completed_text, missing_in}
 use Rattle.draft_answers.specs.declared.faults.DraftFault.{DraftFault}
 use Rattle.draft_answers.specs.declared.filled.FilledDraft.{FilledDraft}
+use Rattle.draft_answers.specs.declared.making.DraftSheet.{DraftSheet}
 use Rattle.draft_answers.specs.Faults.{reported_fault}
 use Rattle.draft_answers.specs.Filling.{has_missing, filled_events, sheet_of}
 
@@ -37,7 +40,7 @@ pub record AreFilled (rules : Rules) (list : List (List ℕ)) (lacks : List Miss
   pub points : KeepPoints written right
   pub is : new ≡ filled_events lacks written right
 
--- ---- what is told of the numbers
+-- ---- what is reported of the numbers
 
 -- whether a wrong number is on a line before this one
 abbrev pub is_before : (line : ℕ) → WrongNumber → Bool
@@ -50,7 +53,7 @@ is_reported_before line (shown.Score place own player written right) = nat_lt ow
 is_reported_before line (shown.Sum place own player written sum right) = nat_lt own line
 is_reported_before line (shown.Total player written right) = false
 
--- the same audit, of which only the wrong numbers before a line are told
+-- the same audit, of which only the wrong numbers before a line are reported
 pub record IsCutAudit (line : ℕ) (whole cut : Audit) : Type 0 where
   pub text : cut.text.items ≡ whole.text.items
   pub wrong : cut.wrong.items ≡ filter (is_before line) whole.wrong.items
@@ -63,7 +66,7 @@ pub record IsCutAnswer (line : ℕ) (whole cut : AuditAnswer) : Type 0 where
   pub numbers : cut.numbers.items ≡ filter (is_reported_before line) whole.numbers.items
   pub amount : cut.amount ≡ None
 
--- an answer to an audit of a sheet, told up to a line
+-- an answer to an audit of a sheet, reported up to a line
 pub record IsAnswerBefore (line : ℕ) (rules : Rules) (list : List (List ℕ)) (sheet : List ℕ) (a : AuditAnswer) : Type 0 where
   pub whole : AuditAnswer
   pub is : IsAuditAnswer rules list sheet whole
@@ -115,3 +118,30 @@ pub record IsTooLong (rules : Rules) (list : List (List ℕ)) (text : List ℕ) 
 abbrev pub IsFillOf : Rules → (list : List (List ℕ)) → (text : List ℕ) → Result FilledDraft DraftFault → Type 0
 IsFillOf rules list text (Ok f) = IsFilled rules list text f
 IsFillOf rules list text (Err f) = IsNoDraft text f ⊎ IsTooLong rules list text f
+
+-- ---- the draft alone
+
+-- the draft that a text is, or the first fault of a text that is none
+abbrev pub IsDraftIn : (text : List ℕ) → Result Draft DraftFault → Type 0
+IsDraftIn text (Ok d) = IsDraft text d
+IsDraftIn text (Err f) = IsNoDraft text f
+
+-- ---- the sheet alone
+
+-- the sheet that a draft makes, however long it is, or the first fault of a text that is no draft
+abbrev pub IsSheetIn : Rules → (list : List (List ℕ)) → (text : List ℕ) → Result DraftSheet DraftFault → Type 0
+IsSheetIn rules list text (Ok s) = IsDrafted rules list text s.lacks.items s.stopped s.text.items
+IsSheetIn rules list text (Err f) = IsNoDraft text f
+
+-- The sheet that a draft makes, which is no longer than a record may be. It is what a command goes on with that takes a draft.
+pub record IsDraftSheet (rules : Rules) (list : List (List ℕ)) (text : List ℕ) (s : DraftSheet) : Type 0 where
+  pub drafted : IsDrafted rules list text s.lacks.items s.stopped s.text.items
+  pub short : length s.text.items ≤ most_bytes
+
+-- why there is none
+abbrev pub IsRefusedDraft : Rules → (list : List (List ℕ)) → (text : List ℕ) → DraftFault → Type 0
+IsRefusedDraft rules list text f = IsNoDraft text f ⊎ IsTooLong rules list text f
+
+abbrev pub IsSheetOf : Rules → (list : List (List ℕ)) → (text : List ℕ) → Result DraftSheet DraftFault → Type 0
+IsSheetOf rules list text (Ok s) = IsDraftSheet rules list text s
+IsSheetOf rules list text (Err f) = IsRefusedDraft rules list text f

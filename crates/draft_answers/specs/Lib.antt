@@ -6,3 +6,4 @@ pub mod Filled
 pub mod Outs
 pub mod Laws
 pub mod Nexts
+pub mod KnownTotals

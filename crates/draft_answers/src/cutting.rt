@@ -1,4 +1,4 @@
-//! An answer to an audit, of which only what is before a line is told.
+//! An answer to an audit, of which only what is before a line is reported.
 ghost use Rattle.std.specs.Prelude.{◌≡◌, IfOk};
 ghost use Rattle.std.specs.List.{filter};
 ghost use Rattle.draft_answers.specs.Filled.{is_before, is_reported_before, IsCutAudit, IsCutAnswer};
@@ -19,7 +19,7 @@ fn is_before(line: u32, number: &WrongNumber) -> bool
     }
 }
 
-/// The same of one that is told with its event.
+/// The same of one that is reported with its event.
 fn is_reported_before(line: u32, number: &ReportedNumber) -> bool
     ensures { result ≡ is_reported_before line number.now }
 {
@@ -47,7 +47,7 @@ fn wrong_before(
     Ok(kept)
 }
 
-/// Those that are told with their events.
+/// Those that are reported with their events.
 fn reported_before(
     alloc: Global,
     line: u32,
@@ -64,7 +64,7 @@ fn reported_before(
     Ok(kept)
 }
 
-/// An audit, of which only the wrong numbers before a line are told.
+/// An audit, of which only the wrong numbers before a line are reported.
 fn audit_before(alloc: Global, line: u32, audit: Audit) -> Result<Audit, AllocError>
     ensures { IfOk result (IsCutAudit line audit) }
 {
@@ -78,7 +78,7 @@ fn audit_before(alloc: Global, line: u32, audit: Audit) -> Result<Audit, AllocEr
     })
 }
 
-/// An answer to an audit, of which only what is before a line is told.
+/// An answer to an audit, of which only what is before a line is reported.
 pub(crate) fn answer_before(
     alloc: Global,
     line: u32,

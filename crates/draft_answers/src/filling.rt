@@ -23,7 +23,7 @@ fn filled_by(missing: Missing, written: &Numbers, right: &Numbers) -> Numbers
 }
 
 /// What is said of an event: it lacks nothing, if nothing is said.
-fn said(missing: Option<&Missing>) -> Missing
+pub(crate) fn said(missing: Option<&Missing>) -> Missing
     ensures { result ≡ said (option_copied missing.entry) }
 {
     match missing {
@@ -52,7 +52,7 @@ pub(crate) fn filled(
 }
 
 /// Whether some event lacks a number.
-pub(crate) fn has_missing(lacks: &[Missing]) -> bool
+pub fn has_missing(lacks: &[Missing]) -> bool
     ensures { result ≡ has_missing lacks.now }
 {
     lacks.iter().any(|missing| is_missing(*missing))

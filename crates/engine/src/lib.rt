@@ -5,8 +5,8 @@
 //! and [`run_settled_ruled`] search for a deal. The contract of [`run`] is the theorem of the whole, from the bytes of the inputs to the bytes of the
 //! output.
 //!
-//! They are made of stages, which are in `engine_stages`; other calls can be made of these too. [`ask`] is the door: it reads rules, a word
-//! list and its lexicon, and then asks a [`Question`]. [`run_question`] asks a [`GameQuestion`], and writes what is decided: [`Judging`],
+//! They are made of stages, which are in `engine_stages`; other calls can be made of these too. [`ask`] is the way in: it reads rules, a
+//! word list and its lexicon, and then asks a [`Question`]. [`run_question`] asks a [`GameQuestion`], and writes what is decided: [`Judging`],
 //! [`BestPlays`] and [`TurnPlays`] are such questions. [`decide_by_pair`] asks one about one game of many by the same pair.
 //!
 //! An answer on a record is made of stages too. [`play_through`] goes from a record and a list to what passed, or to the first event that

@@ -1,9 +1,9 @@
 //! The stages of a call: it reads its inputs in order until one is bad, decides, and writes the report.
 //!
-//! [`ask`] is the door. It reads rules if they are not known, a word list and its lexicon, and then asks a [`Question`], which
+//! [`ask`] is the way in. It reads rules if they are not known, a word list and its lexicon, and then asks a [`Question`], which
 //! may read more. A question about the game of a record is a [`GameQuestion`]; [`decide_by_pair`] asks it about one game of many.
 //!
-//! The door is made of stages; other calls can be made of these too. [`read_list`], [`read_rules`] and [`read_record`] read an input and give
+//! [`ask`] is made of stages; other calls can be made of these too. [`read_list`], [`read_rules`] and [`read_record`] read an input and give
 //! what it means, or the decision that it is bad. [`read_lexicon`] reads a file, and [`pair_file`] makes a pair of it and a list. [`finish`]
 //! writes what was decided.
 //!

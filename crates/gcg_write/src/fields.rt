@@ -84,7 +84,7 @@ pub fn push_play(at: Square, dir: Dir, word: &[Symbol], out: &mut Vec<u8>) -> Re
 }
 
 /// Appends a number with its sign, even if it is 0 or above.
-fn push_signed(points: Points, out: &mut Vec<u8>) -> Result<(), AllocError>
+pub fn push_signed(points: Points, out: &mut Vec<u8>) -> Result<(), AllocError>
     ensures done { OnOk result (out.new.items ≡ out.old.items ++ score_text points) }
     ensures kept { IsFront out.old.items out.new.items }
 {

@@ -11,4 +11,6 @@ mod lines;
 mod writing;
 
 pub use laws::{law_of_other_points, law_of_round_trip};
-pub use writing::{NoMemory, event_text, line_text, play_text, tiles_text, write};
+pub use writing::{
+    NoMemory, event_text, kind_text, line_text, play_text, score_text, tiles_text, write,
+};

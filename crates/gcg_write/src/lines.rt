@@ -12,7 +12,7 @@ use text_decimals::push_number;
 
 /// Appends what happened: the position and the word of a play, or a code.
 #[tactic(auto, unfolding(crate::specs::Fields::kind_text))]
-fn push_kind(kind: &EventKind, out: &mut Vec<u8>) -> Result<(), AllocError>
+pub fn push_kind(kind: &EventKind, out: &mut Vec<u8>) -> Result<(), AllocError>
     ensures done { OnOk result (out.new.items ≡ out.old.items ++ kind_text kind.now) }
     ensures kept { IsFront out.old.items out.new.items }
 {

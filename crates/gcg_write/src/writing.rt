@@ -1,12 +1,12 @@
 //! The public calls: each appends a record, an event or a play as a whole, or nothing.
 ghost use Rattle.std.specs.Prelude.{◌≡◌, ◌++◌, ◌<◌, length, take, OnOk, OnErr};
 ghost use Rattle.std.specs.List.{HoldsAt};
-ghost use Rattle.gcg_write.specs.Fields.{play_text, tiles_text};
+ghost use Rattle.gcg_write.specs.Fields.{kind_text, play_text, score_text, tiles_text};
 ghost use Rattle.gcg_write.specs.Normal.{normal_of, event_line, event_text_of};
 
-use crate::fields::{push_play, push_tiles};
-use crate::lines::{push_event, push_line_of_event, push_record};
-use gcg_read::{Event, Players, Record};
+use crate::fields::{push_play, push_signed, push_tiles};
+use crate::lines::{push_event, push_kind, push_line_of_event, push_record};
+use gcg_read::{Event, EventKind, Players, Points, Record};
 use ref_board::{Dir, Square};
 use ref_tiles::{Counts, Symbol};
 
@@ -54,6 +54,25 @@ pub fn event_text(game: &Record, i: usize, out: &mut Vec<u8>) -> Result<(), NoMe
     let len = out.len();
     let events = game.events.as_slice();
     restored(push_event(&events[i], out), len, out)
+}
+
+/// Appends what happened, as event lines write it: the position and the word of a play, or a code. It fails only if the growth of `out` was refused, and
+/// then `out` is as it was.
+pub fn kind_text(kind: &EventKind, out: &mut Vec<u8>) -> Result<(), NoMemory>
+    ensures written { OnOk result (out.new.items ≡ out.old.items ++ kind_text kind.now) }
+    ensures refused { OnErr result (out.new.items ≡ out.old.items) }
+{
+    let len = out.len();
+    restored(push_kind(kind, out), len, out)
+}
+
+/// Appends a score as event lines write it, always with its sign. It fails only if the growth of `out` was refused, and then `out` is as it was.
+pub fn score_text(score: Points, out: &mut Vec<u8>) -> Result<(), NoMemory>
+    ensures written { OnOk result (out.new.items ≡ out.old.items ++ score_text score) }
+    ensures refused { OnErr result (out.new.items ≡ out.old.items) }
+{
+    let len = out.len();
+    restored(push_signed(score, out), len, out)
 }
 
 /// Appends a play as event lines write it: the square of its first symbol, row and column for one across, column and row for one

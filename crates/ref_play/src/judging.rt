@@ -57,8 +57,8 @@ fn try_play(board: &Board, play: &Play) -> Result<(), PlayFault>
 }
 
 /// Judges a play by the WESPA rules of placement. It is legal if its tiles lie on empty squares, with no empty
-/// square between them, form a word of at least two letters, and cover the centre of an empty board or are orthogonally
-/// beside a tile of any other.
+/// square between them, and form a word of at least two letters, and if one of them covers the centre of an empty board
+/// or, on any other board, is orthogonally beside a tile that lies there.
 ///
 /// The fault is the first of Mismatch, NotWhole, MissesCentre, TooShort and Apart.
 pub fn judge(board: &Board, play: &Play) -> Result<(), PlayFault>

@@ -9,7 +9,7 @@ use cli_args::{
 use cli_exits::{Exit, Trouble};
 use cli_files::{STANDARD_OUTPUT, write};
 use cli_overwrites::{input_under_pages, lost_input};
-use cli_replies::{answer_game, board_in_json, check_in_json, rule_on_words};
+use cli_replies::{answer_game, board_in_json, board_of_draft, check_in_json, rule_on_words};
 use cli_reports::{board, build, check, convert, judge, tidy, top};
 use cli_serve::serve;
 use engine_stages::Verdict;
@@ -127,8 +127,9 @@ fn carry_out<'a, R: Runtime + AllocGlobal>(
             rules,
             before,
             game,
+            draft,
             json,
-        } => show_board(rt, rules, before, game, json),
+        } => show_board(rt, rules, before, game, draft, json),
         Request::Serve { rules, pair } => serve(rt, rules, pair),
         Request::Word { pair, each, words } => rule_on_words(rt, pair, words, each),
         Request::Rules => print_rules(rt),
@@ -164,16 +165,19 @@ fn check_pair<'a, R: Runtime + AllocGlobal>(
     }
 }
 
-/// Shows the board of a record, before a line if one is named: in text, or as a JSON object.
+/// Shows the board of a record or of a draft, before a line if one is named: in text, or as a JSON object. That of a record in text is a call of its own.
 fn show_board<'a, R: Runtime + AllocGlobal>(
     rt: &R,
     rules: Option<&'a str>,
     before: Option<u32>,
     game: &'a str,
+    draft: bool,
     json: bool,
 ) -> Result<Exit, Trouble<'a>> {
     if json {
-        board_in_json(rt, rules, before, game)
+        board_in_json(rt, rules, before, game, draft)
+    } else if draft {
+        board_of_draft(rt, rules, before, game)
     } else {
         ended(board(rt, rules, before, game))
     }

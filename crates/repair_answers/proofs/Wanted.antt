@@ -51,13 +51,13 @@ all_wanted rules list written plays below from most wanted reported remaining is
       others = λ listed right late makes. one_wanted most wanted reported remaining listed right _ is short (first.others listed right late makes);
     }
 
--- the repairs that are told, as many as lines can have
+-- the repairs that are listed, as many as lines can have
 reported_wanted : (rules : Rules) (list : List (List ℕ)) (written : List Event) (alone : Option NumbersAlone) (plays : List Change) (below : Option ℕ) (from most wanted : ℕ) (reported : List Repair) (remaining : List Listed)
     → wanted ≡ min (most * 27) (2 ^ 64 - 1) → AreReported rules list written alone plays below from wanted reported remaining → AreReported rules list written alone plays below from (27 * most) reported remaining
 reported_wanted rules list written alone plays below from most wanted reported remaining is are =
     record { found = are.found; first = all_wanted rules list written plays below from most wanted are.found remaining is are.few are.first; few = are.few; kept = are.kept }
 
--- the repairs that are told of those that were found
+-- the repairs that are listed of those that were found
 pub reported_so : (rules : Rules) (list : List (List ℕ)) (written : List Event) (alone : Option NumbersAlone) (plays : List Change) (below : Option ℕ) (from most : ℕ) (found reported : List Repair) (remaining : List Listed)
     → AreFirstRepairs rules list written plays below from most found remaining → length found < 2 ^ 63 → reported ≡ filter (is_reported alone) found → AreReported rules list written alone plays below from most reported remaining
 reported_so rules list written alone plays below from most found reported remaining first few is = record { found = found; first = first; few = few; kept = is }

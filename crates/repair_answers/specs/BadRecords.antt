@@ -22,7 +22,7 @@ line_of found number (Some r) =
 abbrev pub lines_at : List SheetRepair → (number : ℕ) → List SameCost
 lines_at found number = line_of found number (slice_get found number)
 
--- the lines of some repairs: those that cost the same are told together
+-- the lines of some repairs: those that cost the same are listed together
 unfoldable pub all_lines : List SheetRepair → List SameCost
 all_lines found = flat_map (lines_at found) (range_with_len 0 (length found))
 

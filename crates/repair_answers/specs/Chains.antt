@@ -10,7 +10,7 @@ use Rattle.repair_chains.specs.declared.chains.Chain.{Chain}
 abbrev pub IsChosen : (found reported : Option Chain) → Type 0
 IsChosen found reported = (reported ≡ found) ⊎ (reported ≡ None)
 
--- A chain that is told repairs the record.
+-- A chain that is reported repairs the record.
 abbrev pub IsChainOf : Result Entry ReadFault → Rules → (list : List (List ℕ)) → Option Chain → Type 0
 IsChainOf (Err fault) rules list reported = reported ≡ None
 IsChainOf (Ok entry) rules list reported = IfSome reported (IsChain rules list entry.record.events 7)

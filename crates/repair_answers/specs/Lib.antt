@@ -10,3 +10,4 @@ pub mod Chains
 pub mod Answers
 pub mod Likely
 pub mod Amounts
+pub mod Given

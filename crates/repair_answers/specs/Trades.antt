@@ -1,4 +1,4 @@
--- Which repairs are told of a record that was perhaps played with another word list.
+-- Which repairs are listed of a record that was perhaps played with another word list.
 use Rattle.std.specs.Prelude.{◌≡◌, ℕ, ◌<◌, ◌^◌, ◌&&◌, not, nat_lt, Bool, true, false, List, length, filter, Option, Some, None}
 use Rattle.ref_tiles.specs.declared.rulebook.Rules.{Rules}
 use Rattle.gcg_read.specs.declared.events.Event.{Event}
@@ -24,7 +24,7 @@ rights_none alone repair = not (nat_lt (length repair.remains.wrong.items) (leng
 abbrev pub avoids_word : NumbersAlone → Repair → Bool
 avoids_word alone repair = nat_lt 3 (length alone.remains.unlisted.items) && is_trade repair.listed.change.slip && rights_none alone repair
 
--- such a repair is not told
+-- such a repair is not listed
 abbrev pub is_reported : Option NumbersAlone → Repair → Bool
 is_reported None repair = true
 is_reported (Some alone) repair = not (avoids_word alone repair)

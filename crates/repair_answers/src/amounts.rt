@@ -5,9 +5,9 @@ ghost use Rattle.repair_answers.specs.Amounts.{is_of_amount, explains, IsAmountO
 
 use crate::answers::below_of;
 use crate::choices::cost_of;
+use crate::no_change::unchanged;
 use crate::numbers_alone::NumbersAlone;
 use crate::singles::first_repairs;
-use crate::unchanged::unchanged;
 use game_walk::walk_as_written;
 use gcg_read::Record;
 use lex_check::Checked;

@@ -10,11 +10,11 @@ use crate::bad_records::{LineRepairs, repairs_of_line};
 use crate::chains::chain_of;
 use crate::evidence::{Reported, before_numbers, lines_of};
 use crate::lists::{search_limit, tries_from};
+use crate::no_change::unchanged;
 use crate::numbers_alone::NumbersAlone;
 use crate::sheet_repair::SheetRepair;
 use crate::sheets::sheet_repairs;
 use crate::singles::first_repairs;
-use crate::unchanged::unchanged;
 use engine_stages::Verdict;
 use game_case::{Case, Entry, Finding, case_verdict};
 use game_walk::Walk;
@@ -74,7 +74,7 @@ pub struct RepairAnswer {
 }
 
 /// Fewer numbers and words than this may stay wrong with a repair; `None` if any number may.
-pub(crate) fn below_of(alone: &Option<NumbersAlone>) -> Option<usize>
+pub fn below_of(alone: &Option<NumbersAlone>) -> Option<usize>
     ensures { result ≡ below_of alone.now }
 {
     match alone {

@@ -26,7 +26,7 @@ pub struct SameCost {
 pub struct LineRepairs {
     /// The slips of the line with which it is a record, and a game as far as is known: those that cost least first.
     pub found: Vec<SheetRepair>,
-    /// The first of them in lines: those that cost the same are told together.
+    /// The first of them in lines: those that cost the same are listed together.
     pub lines: Vec<SameCost>,
 }
 

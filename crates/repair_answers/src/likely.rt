@@ -8,11 +8,11 @@ ghost use Rattle.repair_answers.specs.Likely.{IsFirstChange, IsFirstSheet, IsLik
 
 use crate::answers::below_of;
 use crate::choices::{Choice, choice_among};
+use crate::no_change::unchanged;
 use crate::numbers_alone::NumbersAlone;
 use crate::sheet_repair::SheetRepair;
 use crate::sheets::sheet_repairs;
 use crate::singles::first_repairs;
-use crate::unchanged::unchanged;
 use game_case::{Case, Entry, Finding};
 use game_walk::Walk;
 use gcg_read::Record;

@@ -75,7 +75,7 @@ fn limit_for(many: u128, events: usize) -> Option<u64>
 ///
 /// It fails only if memory runs out.
 #[tactic(auto, using(crate::proofs::Tries::no_limit))]
-pub(crate) fn search_limit(
+pub fn search_limit(
     alloc: Global,
     rules: &Rules,
     list: &WordList,

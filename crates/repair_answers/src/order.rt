@@ -4,7 +4,7 @@ use crate::answers::Faulty;
 use crate::choices::cost_of;
 use std::alloc::{AllocError, Global};
 
-/// What is told of an illegal record.
+/// What is reported of an illegal record.
 #[derive(Clone, Copy)]
 pub enum Item {
     /// The line of repairs with this number.

@@ -6,9 +6,9 @@ ghost use Rattle.repair_sheets.specs.Weights.{weight_of};
 ghost use Rattle.repair_answers.specs.Choices.{alone_cost};
 ghost use Rattle.repair_answers.specs.Sheets.{slip_places, slips_tried, count_wrong, sheet_room, IsRighted, IsTrial, AreFoundTo, AreSheetRepairs};
 
+use crate::no_change::unchanged;
 use crate::numbers_alone::NumbersAlone;
 use crate::sheet_repair::{Righted, SheetRepair};
-use crate::unchanged::unchanged;
 use game_walk::{Walk, renumber};
 use gcg_read::{Event, Events, Players, Record};
 use lex_list::WordList;

@@ -109,7 +109,7 @@ fn found_repairs(
     with_plays(alloc, rules, pair, events, plays, below, most, limit)
 }
 
-/// The first `most` repairs of a record that are told, given what is wrong if only its numbers are: by the changes of its list; if the first of them costs
+/// The first `most` repairs of a record that are listed, given what is wrong if only its numbers are: by the changes of its list; if the first of them costs
 /// more than a wrong number, or there is none, by these changes and by the plays that a search finds. A limit ends the search at a place once it took so many
 /// steps; the last places are tried first. Afterwards the events are as they were.
 ///

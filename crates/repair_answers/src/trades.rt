@@ -35,7 +35,7 @@ fn avoids_word(alone: &NumbersAlone, repair: &Repair) -> bool
         && rights_none(alone, repair)
 }
 
-/// Whether a repair is told: it is not one that only avoids a word.
+/// Whether a repair is listed: it is not one that only avoids a word.
 fn is_reported(alone: &Option<NumbersAlone>, repair: &Repair) -> bool
     ensures { result ≡ is_reported alone.now repair.now }
 {
@@ -45,7 +45,7 @@ fn is_reported(alone: &Option<NumbersAlone>, repair: &Repair) -> bool
     }
 }
 
-/// Keeps only the repairs that are told.
+/// Keeps only the repairs that are listed.
 pub(crate) fn keep_reported(alone: &Option<NumbersAlone>, repairs: &mut Vec<Repair>)
     ensures { repairs.new.items ≡ filter (is_reported alone.now) repairs.old.items }
 {

@@ -7,13 +7,14 @@ use Rattle.json_trees.specs.Values.{Field, array_of, count, object_of, text}
 use Rattle.gcg_read.specs.declared.events.Event.{Event}
 use Rattle.gcg_read.specs.declared.players.Players.{Players}
 use Rattle.gcg_write.specs.Normal.{event_line}
+use Rattle.gcg_drafts.specs.declared.missing.Missing.{Missing}
+use Rattle.draft_changes.specs.Counting.{numbers_to_go_by}
 use Rattle.repair_changes.specs.declared.slips.Change.{Change}
 use Rattle.repair_changes.specs.declared.slips.Slip.{Slip}
 use Rattle.repair_changes.specs.declared.slips.Slip.TheVariants as slip
 use Rattle.repair_changes.specs.declared.spots.Spot.{Spot}
 use Rattle.repair_changes.specs.declared.spots.Spot.TheVariants as spot
 use Rattle.repair_changes.specs.Applied.{wrong_events}
-use Rattle.repair_changes.specs.Numbers.{numbers_with}
 use Rattle.repair_changes.specs.Spots.{spot_of}
 use Rattle.repair_changes.specs.Weights.{weight_of}
 use Rattle.repair_single.specs.declared.repair.Repair.{Repair}
@@ -88,9 +89,10 @@ abbrev pub put_at : Players → List Repair → (index : ℕ) → Option Json
 put_at players repairs index = option_and_then (put_by players) (slice_get repairs index)
 
 -- a repair with the numbers of those that share its line: where it is, what is wrong there, the lines that it replaces, what comes in their place, what the
--- others put there, what the slip weighs, what the repair costs, and the evidence
-abbrev pub repair_fields : Players → (events : List Event) → List Repair → Repair → (others : List ℕ) → List Field
-repair_fields players events repairs repair others =
+-- others put there, what the slip weighs, what the repair costs, and the evidence, which of a draft is in the
+-- numbers that its lines do not lack
+abbrev pub repair_fields : Players → (events : List Event) → (lacks : List Missing) → List Repair → Repair → (others : List ℕ) → List Field
+repair_fields players events lacks repairs repair others =
     (codes "at", string (at_word (spot_of events repair.listed.change)))
     ∷ (codes "line", count (line_in (spot_of events repair.listed.change)))
     ∷ (codes "slip", string (slip_name repair.listed.change.slip))
@@ -99,12 +101,12 @@ repair_fields players events repairs repair others =
     ∷ (codes "others", array_of (filter_map (put_at players repairs) others))
     ∷ (codes "weight", count (weight_of repair.listed.change.slip))
     ∷ (codes "cost", count (cost_in repair))
-    ∷ (codes "evidence", evidence_object repair.remains (numbers_with repair.listed.change.slip (length events)))
+    ∷ (codes "evidence", evidence_object repair.remains (numbers_to_go_by lacks repair.listed.change (length events)))
     ∷ []
 
-abbrev pub repair_object : Players → (events : List Event) → List Repair → Repair → (others : List ℕ) → Json
-repair_object players events repairs repair others = object_of (repair_fields players events repairs repair others)
+abbrev pub repair_object : Players → (events : List Event) → (lacks : List Missing) → List Repair → Repair → (others : List ℕ) → Json
+repair_object players events lacks repairs repair others = object_of (repair_fields players events lacks repairs repair others)
 
--- a single repair
+-- a single repair of a record
 abbrev pub single_object : Players → (events : List Event) → Repair → Json
-single_object players events repair = repair_object players events [] repair []
+single_object players events repair = repair_object players events [] [] repair []

@@ -2,7 +2,7 @@
 ghost use Rattle.std.specs.Prelude.{◌≡◌, IfOk, map, option_map};
 ghost use Rattle.json_trees.specs.Trees.{view};
 ghost use Rattle.json_trees.specs.Values.{array_of, object_of};
-ghost use Rattle.repair_json.specs.Answers.{alone_value, answer_object, faulty_fields, pair_with, pairs_value, repairs_value, settled_value, sound_fields, reported_pair, reported_repair};
+ghost use Rattle.repair_json.specs.Answers.{alone_value, answer_object, faulty_fields, pair_with, pairs_value, repairs_value, settled_value, sound_fields, to_go_by, reported_pair, reported_repair};
 ghost use Rattle.repair_json.specs.Sheets.{sheet_object};
 
 use crate::chains::chain_or_null;
@@ -10,12 +10,15 @@ use crate::changes::repair_tree;
 use crate::evidence::evidence_tree;
 use crate::pairs::pair_tree;
 use crate::sheets::sheet_tree;
+use draft_changes::count_written;
 use engine_stages::Verdict;
+use gcg_drafts::Missing;
 use gcg_read::{Event, Players, Record};
 use gcg_unread::UnreadLine;
 use json_base::{ending_tree, fault_line_tree, fault_tree, item_at, unread_array, verdict_name};
 use json_trees::{
     Tree, array, bool_tree, name_tree, null_tree, object, push_if, size_tree, wide_tree,
+    with_field_if,
 };
 use repair_answers::{Faulty, NumbersAlone, RepairAnswer, Reported, SheetRepair};
 use repair_chains::Chain;
@@ -27,12 +30,16 @@ use std::alloc::{AllocError, Global};
 fn alone_tree(
     alloc: Global,
     events: &[Event],
+    lacks: &[Missing],
     alone: &Option<NumbersAlone>,
 ) -> Result<Tree, AllocError>
-    ensures { IfOk result (λ tree. view tree ≡ alone_value events.now alone.now) }
+    ensures { IfOk result (λ tree. view tree ≡ alone_value events.now lacks.now alone.now) }
 {
     match alone {
-        Some(alone) => evidence_tree(alloc, &alone.remains, 2 * events.len() as u128),
+        Some(alone) => {
+            let numbers = count_written(lacks, events.len());
+            evidence_tree(alloc, &alone.remains, numbers)
+        }
         None => Ok(null_tree()),
     }
 }
@@ -51,17 +58,19 @@ fn settled_tree(alone: &Option<NumbersAlone>) -> Tree
 fn reported_repair(
     alloc: Global,
     game: &Record,
+    lacks: &[Missing],
     repairs: &[Repair],
     reported: &Reported,
 ) -> Result<Option<Tree>, AllocError>
-    ensures { IfOk result (λ tree. option_map view tree ≡ reported_repair game.now repairs.now reported.now) }
+    ensures { IfOk result (λ tree. option_map view tree ≡ reported_repair game.now lacks.now repairs.now reported.now) }
 {
     let players = &game.players;
     let events = game.events.as_slice();
     match item_at(repairs, reported.first) {
         Some(repair) => {
             let others = reported.others.as_slice();
-            Ok(Some(repair_tree(alloc, players, events, repairs, repair, others)?))
+            let tree = repair_tree(alloc, players, events, lacks, repairs, repair, others)?;
+            Ok(Some(tree))
         }
         None => Ok(None),
     }
@@ -72,14 +81,18 @@ fn reported_repair(
 fn repairs_array(
     alloc: Global,
     game: &Record,
+    lacks: &[Missing],
     repairs: &[Repair],
     lines: &[Reported],
 ) -> Result<Tree, AllocError>
-    ensures { IfOk result (λ tree. view tree ≡ repairs_value game.now repairs.now lines.now) }
+    ensures { IfOk result (λ tree. view tree ≡ repairs_value game.now lacks.now repairs.now lines.now) }
 {
     let mut trees = Vec::new(alloc);
     for reported in lines {
-        push_if(&mut trees, reported_repair(alloc, game, repairs, reported)?)?;
+        push_if(
+            &mut trees,
+            reported_repair(alloc, game, lacks, repairs, reported)?,
+        )?;
     }
     Ok(array(trees))
 }
@@ -148,21 +161,32 @@ fn sheets_array(
     Ok(array(trees))
 }
 
-/// What repairs an illegal record.
+/// How many numbers of a draft there are to go by, if it is one: its lines lack these.
+fn to_go_by(lacks: &[Missing]) -> Option<Tree>
+    ensures { option_map view result ≡ to_go_by lacks.now }
+{
+    if lacks.is_empty() {
+        return None;
+    }
+    Some(wide_tree(count_written(lacks, lacks.len())))
+}
+
+/// What repairs an illegal record, or an illegal draft whose lines lack these numbers.
 fn faulty_tree(
     alloc: Global,
     game: &Record,
+    lacks: &[Missing],
     verdict: &Verdict,
     faulty: &Faulty,
     chain: &Option<Chain>,
     unread: &[UnreadLine],
 ) -> Result<Tree, AllocError>
-    ensures { IfOk result (λ tree. view tree ≡ object_of (faulty_fields game.now verdict.now faulty.now chain.now unread.now)) }
+    ensures { IfOk result (λ tree. view tree ≡ object_of (faulty_fields game.now lacks.now verdict.now faulty.now chain.now unread.now)) }
 {
     let fault = fault_tree(alloc, verdict)?;
-    let alone = alone_tree(alloc, game.events.as_slice(), &faulty.alone)?;
+    let alone = alone_tree(alloc, game.events.as_slice(), lacks, &faulty.alone)?;
     let reported = faulty.found.reported.as_slice();
-    let repairs = repairs_array(alloc, game, reported, faulty.lines.as_slice())?;
+    let repairs = repairs_array(alloc, game, lacks, reported, faulty.lines.as_slice())?;
     let pairs = pairs_array(alloc, game, &faulty.pairs, faulty.pair_lines.as_slice())?;
     let chain = chain_or_null(alloc, game, chain)?;
     let sheets = sheets_array(alloc, &game.players, faulty.sheets.as_slice())?;
@@ -183,12 +207,18 @@ fn faulty_tree(
         ("sheet_slips", sheets),
         ("unread_lines", unread),
     ]?;
+    let fields = with_field_if(fields, "to_go_by", to_go_by(lacks))?;
     Ok(object(fields))
 }
 
-/// That a record is not illegal, so that nothing repairs it.
-fn sound_tree(alloc: Global, verdict: &Verdict, unread: &[UnreadLine]) -> Result<Tree, AllocError>
-    ensures { IfOk result (λ tree. view tree ≡ object_of (sound_fields verdict.now unread.now)) }
+/// That a record, or a draft whose lines lack these numbers, is not illegal, so that nothing repairs it.
+fn sound_tree(
+    alloc: Global,
+    lacks: &[Missing],
+    verdict: &Verdict,
+    unread: &[UnreadLine],
+) -> Result<Tree, AllocError>
+    ensures { IfOk result (λ tree. view tree ≡ object_of (sound_fields lacks.now verdict.now unread.now)) }
 {
     let fault = fault_tree(alloc, verdict)?;
     let unread = unread_array(alloc, unread)?;
@@ -208,10 +238,12 @@ fn sound_tree(alloc: Global, verdict: &Verdict, unread: &[UnreadLine]) -> Result
         ("sheet_slips", array(Vec::new(alloc))),
         ("unread_lines", unread),
     ]?;
+    let fields = with_field_if(fields, "to_go_by", to_go_by(lacks))?;
     Ok(object(fields))
 }
 
-/// What repairs a record: its verdict; if it is illegal, its repairs with their evidence; and the lines that are not read.
+/// What repairs a record, or a draft whose lines lack these numbers: its verdict; if it is illegal, its repairs with their evidence; the lines that are not read;
+/// and of a draft how many numbers there are to go by.
 ///
 /// # Errors
 ///
@@ -219,13 +251,22 @@ fn sound_tree(alloc: Global, verdict: &Verdict, unread: &[UnreadLine]) -> Result
 pub fn answer_tree(
     alloc: Global,
     game: &Record,
+    lacks: &[Missing],
     answer: &RepairAnswer,
     unread: &[UnreadLine],
 ) -> Result<Tree, AllocError>
-    ensures { IfOk result (λ tree. view tree ≡ answer_object game.now answer.now unread.now) }
+    ensures { IfOk result (λ tree. view tree ≡ answer_object game.now lacks.now answer.now unread.now) }
 {
     match &answer.faulty {
-        Some(faulty) => faulty_tree(alloc, game, &answer.verdict, faulty, &answer.chain, unread),
-        None => sound_tree(alloc, &answer.verdict, unread),
+        Some(faulty) => faulty_tree(
+            alloc,
+            game,
+            lacks,
+            &answer.verdict,
+            faulty,
+            &answer.chain,
+            unread,
+        ),
+        None => sound_tree(alloc, lacks, &answer.verdict, unread),
     }
 }

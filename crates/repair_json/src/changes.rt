@@ -7,13 +7,15 @@ ghost use Rattle.repair_json.specs.Changes.{at_word, change_object, coming, even
 
 use crate::evidence::evidence_tree;
 use crate::slip_names::slip_name;
+use draft_changes::numbers_to_go_by;
+use gcg_drafts::Missing;
 use gcg_read::{Event, Players, Record};
 use gcg_write::line_text;
 use json_base::item_at;
 use json_trees::{
     Tree, array, count_tree, name_tree, object, push_if, size_tree, text_tree, wide_tree,
 };
-use repair_changes::{Change, Slip, Spot, numbers_with, spot_of, weight_of, wrong_events};
+use repair_changes::{Change, Slip, Spot, spot_of, weight_of, wrong_events};
 use repair_single::Repair;
 use std::alloc::{AllocError, Global};
 
@@ -192,20 +194,21 @@ fn others_array(
     Ok(array(trees))
 }
 
-/// A repair, with those that share its line.
+/// A repair of a record, or of a draft whose lines lack these numbers, with those that share its line.
 pub(crate) fn repair_tree(
     alloc: Global,
     players: &Players,
     events: &[Event],
+    lacks: &[Missing],
     repairs: &[Repair],
     repair: &Repair,
     others: &[usize],
 ) -> Result<Tree, AllocError>
-    ensures { IfOk result (λ tree. view tree ≡ repair_object players.now events.now repairs.now repair.now others.now) }
+    ensures { IfOk result (λ tree. view tree ≡ repair_object players.now events.now lacks.now repairs.now repair.now others.now) }
 {
     let change = &repair.listed.change;
     let spot = spot_of(events, change);
-    let numbers = numbers_with(&change.slip, events.len());
+    let numbers = numbers_to_go_by(lacks, change, events.len());
     let replaces = lines_array(alloc, replaced(events, change))?;
     let lines = events_array(alloc, players, coming(repair.right.as_slice(), change))?;
     let others = others_array(alloc, players, repairs, others)?;
@@ -237,7 +240,7 @@ pub fn tree_by_events(
 ) -> Result<Tree, AllocError>
     ensures { IfOk result (λ tree. view tree ≡ single_object players.now events.now repair.now) }
 {
-    repair_tree(alloc, players, events, &[], repair, &[])
+    repair_tree(alloc, players, events, &[], &[], repair, &[])
 }
 
 /// A single repair of a record.

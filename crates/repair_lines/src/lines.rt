@@ -4,14 +4,16 @@ use crate::bad_records::push_line_repairs;
 use crate::chains::push_chain;
 use crate::letters::push_difference;
 use crate::sheets::push_sheet;
+use draft_changes::{count_written, numbers_to_go_by};
 use explain_parts::{Part, say};
 use game_case::{Case, case_line};
+use gcg_drafts::Missing;
 use gcg_read::Record;
 use repair_answers::{
     Faulty, Item, NumbersAlone, RepairAnswer, Reported, WORDS_OF_SLIPS, items_of,
 };
 use repair_chains::later_spot;
-use repair_changes::{numbers_with, numbers_with_both};
+use repair_changes::numbers_with_both;
 use repair_pairs::{Head, Pair, Pairs};
 use repair_single::Repair;
 use repair_words::{push_change, push_change_at, push_change_of, push_evidence};
@@ -38,6 +40,7 @@ fn push_others(text: &mut Vec<u8>, repairs: &[Repair], others: &[usize]) -> Resu
 fn push_reported(
     text: &mut Vec<u8>,
     record: &Record,
+    lacks: &[Missing],
     repairs: &[Repair],
     reported: &Reported,
 ) -> Result<(), AllocError> {
@@ -47,7 +50,7 @@ fn push_reported(
     push_change_of(text, record, repair)?;
     push_others(text, repairs, reported.others.as_slice())?;
     text.extend_from_slice(b"\n")?;
-    let numbers = numbers_with(&repair.listed.change.slip, record.events.len());
+    let numbers = numbers_to_go_by(lacks, &repair.listed.change, record.events.len());
     push_evidence(text, &repair.remains, numbers)
 }
 
@@ -124,7 +127,12 @@ fn push_pairs(text: &mut Vec<u8>, record: &Record, faulty: &Faulty) -> Result<()
 }
 
 /// Appends that only the numbers are wrong, if that is so.
-fn push_alone(text: &mut Vec<u8>, record: &Record, faulty: &Faulty) -> Result<(), AllocError> {
+fn push_alone(
+    text: &mut Vec<u8>,
+    record: &Record,
+    lacks: &[Missing],
+    faulty: &Faulty,
+) -> Result<(), AllocError> {
     let Some(alone) = &faulty.alone else {
         return Ok(());
     };
@@ -133,13 +141,18 @@ fn push_alone(text: &mut Vec<u8>, record: &Record, faulty: &Faulty) -> Result<()
     } else {
         b"with only the numbers corrected it may be a game: no deal was found\n"
     })?;
-    push_evidence(text, &alone.remains, 2 * record.events.len() as u128)
+    push_evidence(
+        text,
+        &alone.remains,
+        count_written(lacks, record.events.len()),
+    )
 }
 
-/// Appends one of the things that are told of an illegal record.
+/// Appends one of the things that are reported of an illegal record.
 fn push_item(
     text: &mut Vec<u8>,
     record: &Record,
+    lacks: &[Missing],
     faulty: &Faulty,
     item: Item,
 ) -> Result<(), AllocError> {
@@ -148,12 +161,13 @@ fn push_item(
             Some(reported) => push_reported(
                 text,
                 record,
+                lacks,
                 faulty.found.reported.as_slice(),
                 reported,
             ),
             None => Ok(()),
         },
-        Item::Numbers => push_alone(text, record, faulty),
+        Item::Numbers => push_alone(text, record, lacks, faulty),
         Item::Sheet(number) => match faulty.sheets.as_slice().get(number) {
             Some(repair) => push_sheet(text, record, repair),
             None => Ok(()),
@@ -241,16 +255,32 @@ fn push_other_list(text: &mut Vec<u8>, faulty: &Faulty) -> Result<(), AllocError
     )
 }
 
+/// Appends how many numbers of a draft there are to go by, if some are missing.
+fn push_to_go_by(text: &mut Vec<u8>, record: &Record, lacks: &[Missing]) -> Result<(), AllocError> {
+    let written = count_written(lacks, record.events.len());
+    let all = count_written(&[], record.events.len());
+    if written == all {
+        return Ok(());
+    }
+    text.extend_from_slice(b"numbers to go by: ")?;
+    push_number(text, written)?;
+    text.extend_from_slice(b" of ")?;
+    push_number(text, all)?;
+    text.extend_from_slice(b", the others are missing\n")
+}
+
 /// Appends what repairs an illegal record, in the order of what it costs.
 fn push_faulty(
     alloc: Global,
     text: &mut Vec<u8>,
     record: &Record,
+    lacks: &[Missing],
     faulty: &Faulty,
 ) -> Result<(), AllocError> {
+    push_to_go_by(text, record, lacks)?;
     push_other_list(text, faulty)?;
     for item in items_of(alloc, faulty)? {
-        push_item(text, record, faulty, item)?;
+        push_item(text, record, lacks, faulty, item)?;
     }
     push_none(text, faulty)?;
     push_remaining(text, faulty)?;
@@ -266,20 +296,22 @@ fn push_of_line(text: &mut Vec<u8>, answer: &RepairAnswer) -> Result<(), AllocEr
     }
 }
 
-/// Appends the answer on the case of a record: its verdict line and, if the record is illegal or the text is not one, its repairs with their evidence.
+/// Appends the answer on the case of a record, or of the sheet of a draft whose lines lack these numbers: its verdict line and, if the record is illegal or the
+/// text is not one, its repairs with their evidence.
 ///
 /// It fails only if memory runs out.
 pub fn push_repairs(
     alloc: Global,
     text: &mut Vec<u8>,
     case: &Case,
+    lacks: &[Missing],
     answer: &RepairAnswer,
 ) -> Result<(), AllocError> {
     let line = case_line(alloc, case)?;
     text.extend_from_slice(line.as_slice())?;
     match (&case.read, &answer.faulty) {
         (Ok(entry), Some(faulty)) => {
-            push_faulty(alloc, text, &entry.record, faulty)?;
+            push_faulty(alloc, text, &entry.record, lacks, faulty)?;
             push_chain(text, &entry.record, &answer.chain)
         }
         _ => push_of_line(text, answer),

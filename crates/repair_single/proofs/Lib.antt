@@ -13,7 +13,7 @@ pub mod WrongSums
 pub mod StayingWrong
 pub mod Counted
 pub mod Skipping
-pub mod Corrected
+pub mod Corrections
 pub mod RackStops
 pub mod FirstSteps
 pub mod Foreseen
@@ -35,3 +35,4 @@ pub mod Neighbours
 pub mod Rejoining
 pub mod GoingWrong
 pub mod Commonest
+pub mod InOrder

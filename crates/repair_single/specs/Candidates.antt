@@ -67,3 +67,9 @@ pub record AreCandidates (rules : Rules) (list : List (List ℕ)) (written : Lis
   pub each : All (IsCandidate rules list written plays below) found
   pub ordered : AllPairs (λ (a b : Candidate). is_ahead (rank_in a) (rank_in b) ≡ true) found
   pub all : (listed : Listed) → from ≤ listed.change.place → MayBeReported rules list written plays below listed → IsThere found listed
+
+-- the same in the order of the list
+pub record AreInOrder (rules : Rules) (list : List (List ℕ)) (written : List Event) (plays : List Change) (below : Option ℕ) (from : ℕ) (found : List Candidate) : Type 0 where
+  pub each : All (IsCandidate rules list written plays below) found
+  pub ordered : AllPairs (λ (a b : Candidate). is_earlier (rank_in a) (rank_in b) ≡ true) found
+  pub all : (listed : Listed) → from ≤ listed.change.place → MayBeReported rules list written plays below listed → IsThere found listed

@@ -4,18 +4,18 @@ use crate::listed::Listed;
 
 /// A change with which a record has a correction.
 #[derive(Drop)]
-pub(crate) struct Candidate {
+pub struct Candidate {
     /// The change.
-    pub(crate) listed: Listed,
+    pub listed: Listed,
     /// What it costs.
-    pub(crate) cost: u128,
+    pub cost: u128,
 }
 
 /// The changes with which a record has a correction, from a place on.
 #[derive(Drop)]
-pub(crate) struct Candidates {
+pub struct Candidates {
     /// The changes.
-    pub(crate) found: Vec<Candidate>,
+    pub found: Vec<Candidate>,
     /// The first place that was tried.
-    pub(crate) from: usize,
+    pub from: usize,
 }

@@ -4,7 +4,7 @@ ghost use Rattle.ref_tiles.specs.declared.rulebook.Rules.{Rules};
 ghost use Rattle.repair_slips.specs.Changes.{change_at};
 ghost use Rattle.game_walk.specs.Walks.{IsWalkOf};
 ghost use Rattle.gcg_read.specs.declared.events.Event.{Event};
-ghost use Rattle.repair_single.specs.Candidates.{AreBetween, AreCandidates, AddsCandidates, AddsListed, MayBeReported};
+ghost use Rattle.repair_single.specs.Candidates.{AreBetween, AreInOrder, AreCandidates, AddsCandidates, AddsListed, MayBeReported};
 ghost use Rattle.repair_changes.specs.declared.slips.Change.{Change};
 ghost use Rattle.repair_single.specs.Listing.{changes_with};
 ghost use Rattle.repair_single.specs.Repairs.{IsListed};
@@ -239,4 +239,30 @@ pub(crate) fn all_candidates(
     )?;
     all.found.sort_by_key(|candidate| candidate.cost)?;
     Ok(all)
+}
+
+/// The changes of a record with which it has a correction that leaves few enough numbers and words wrong, in the order of the list. Some of those with which
+/// it makes no game are left out. Without a limit all places are tried.
+///
+/// It fails only if memory runs out.
+#[tactic(auto, using(crate::proofs::InOrder::between))]
+pub fn ordered_candidates(
+    alloc: Global,
+    rules: &Rules,
+    list: &WordList,
+    walk: &Walk,
+    events: &[Event],
+    plays: &[Change],
+    below: Option<usize>,
+    limit: Option<u64>,
+) -> Result<Candidates, AllocError>
+    requires { IsWalkOf rules.now list.now events.now walk.now }
+    ensures found { IfOk result (λ c. AreInOrder rules.now list.now events.now plays.now below c.from c.found.items) }
+    ensures all { IfOk result (λ c. limit ≡ None → c.from ≡ 0) }
+{
+    let stop = rack_stop(alloc, rules, walk, events)?;
+    let end = count_places(walk, &stop);
+    candidates_before(
+        alloc, rules, list, walk, events, plays, below, &stop, end, limit,
+    )
 }

@@ -32,11 +32,18 @@ mod steps;
 mod trying;
 mod with_plays;
 
+pub use candidate::{Candidate, Candidates};
+pub use candidates::ordered_candidates;
+pub use comparing::is_among;
+pub use correcting::corrected;
 pub use finding::repairs;
 pub use first_changes::{makes, sheet_with};
 pub use found::Found;
 pub use laws::{law_of_commonest, law_of_rack_stops, law_of_stops};
 pub use listed::Listed;
+pub use outcome::Outcome;
+pub use remaining::unlisted_words;
 pub use remains::Remains;
 pub use repair::Repair;
+pub use settling::settled;
 pub use standing::game_before;

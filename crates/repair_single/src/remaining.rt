@@ -100,7 +100,7 @@ fn push_words(words: &mut Vec<SpelledWord>, mut more: Vec<SpelledWord>) -> Resul
 }
 
 /// The words of a record that stand and are not in the list, if the rules allow each of its events.
-fn unlisted_words(
+pub fn unlisted_words(
     alloc: Global,
     rules: &Rules,
     list: &WordList,

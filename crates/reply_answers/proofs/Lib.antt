@@ -7,3 +7,5 @@ pub mod PlayLaws
 pub mod TidyLaws
 pub mod Boarding
 pub mod Drafting
+pub mod OnDrafts
+pub mod AsRecords

@@ -79,3 +79,4 @@ status_of_reply (reply.Repaired x) = status_of (explain_exit x.case.read None)
 status_of_reply (reply.Annotated x) = status_of (explain_exit x.case.read None)
 status_of_reply (reply.Filled sheet) = status_of_filled sheet.found
 status_of_reply (reply.Next found) = status_of_next found
+status_of_reply (reply.NoDraft fault) = status_of exit.BadInput

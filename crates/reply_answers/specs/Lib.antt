@@ -6,8 +6,11 @@ pub mod Drafted
 pub mod Explained
 pub mod ReadSheets
 pub mod Repaired
+pub mod DraftFacts
+pub mod OnDrafts
 pub mod Exits
 pub mod Plays
 pub mod Tidied
 pub mod Words
 pub mod Replies
+pub mod WholeDrafts

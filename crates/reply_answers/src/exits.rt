@@ -126,5 +126,6 @@ pub fn exit_of_reply(reply: &Reply) -> Exit
         Reply::Annotated(sheet) => exit_of_case(&sheet.case, None),
         Reply::Filled(sheet) => exit_of_filled(&sheet.found),
         Reply::Next(found) => exit_of_next(found),
+        Reply::NoDraft(_) => Exit::BadInput,
     }
 }

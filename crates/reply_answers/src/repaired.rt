@@ -8,6 +8,7 @@ ghost use Rattle.reply_answers.specs.Repaired.{repairs_asked, Repairs, IsRepaire
 use crate::games::{case_in, unread_in};
 use engine_stages::RunFault;
 use game_case::Case;
+use gcg_drafts::Missing;
 use gcg_unread::UnreadLine;
 use lex_check::Checked;
 use ref_tiles::Rules;
@@ -26,12 +27,14 @@ pub struct RepairedCase {
     pub answer: RepairAnswer,
     /// Whether the repaired sheet is requested.
     pub asked: bool,
+    /// What each event line of a draft lacks; nothing is said of those of a record.
+    pub lacks: Vec<Missing>,
     /// The lines of the sheet that are not read although they look like events.
     pub unread: Vec<UnreadLine>,
 }
 
 /// How many repairs are requested.
-fn repairs_asked(number: Option<u32>) -> usize
+pub(crate) fn repairs_asked(number: Option<u32>) -> usize
     ensures { result ≡ repairs_asked number }
 {
     match number {
@@ -60,6 +63,7 @@ fn repaired_of(
         case,
         answer,
         asked,
+        lacks: Vec::new(alloc),
         unread,
     })
 }

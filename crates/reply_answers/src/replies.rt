@@ -4,24 +4,26 @@ ghost use Rattle.lex_check.specs.Pairs.{list_in};
 ghost use Rattle.game_known.specs.Known.{AreKnown};
 ghost use Rattle.reply_answers.specs.Given.{FailsForMemoryAlone};
 ghost use Rattle.reply_requests.specs.declared.requests.Request.TheVariants as request;
-ghost use Rattle.reply_answers.specs.Replies.{IsReplyTo, IsReplyByRules};
+ghost use Rattle.reply_answers.specs.Replies.{IsExplainReply, IsBoardReply, IsRepairReply, IsReplyTo, IsReplyByRules};
 
 use crate::annotated::annotated;
 use crate::audited::{AuditedSheet, audited_sheet};
 use crate::compared::{SheetsFound, compared};
 use crate::drafted::{FilledSheet, filled_sheet};
-use crate::explained::{ExplainedCase, explained};
+use crate::explained::ExplainedCase;
 use crate::judges::Judges;
+use crate::on_drafts::{explained_as, repaired_as, shown_as};
 use crate::paged::paged;
 use crate::plays::plays_in;
-use crate::read_sheets::{JudgedSheet, ShownSheet, judged_sheet, shown_sheet};
-use crate::repaired::{RepairedCase, repaired};
+use crate::read_sheets::{JudgedSheet, ShownSheet, judged_sheet};
+use crate::repaired::RepairedCase;
 use crate::tidying::tidied;
 use crate::words::{Ruled, rule_on_texts};
 use draft_answers::{DraftFault, DraftNext, next_line};
 use engine_stages::{Decision, RunFault};
 use game_answers::FoundPlays;
 use game_known::KnownBests;
+use lex_check::Checked;
 use page_answers::PagedCase;
 use ref_tiles::Rules;
 use reply_requests::Request;
@@ -59,9 +61,70 @@ pub enum Reply {
     Filled(FilledSheet),
     /// To one that asks what the next line of a draft is about: that, or the first fault of the draft.
     Next(Result<DraftNext, DraftFault>),
+    /// To one whose text is to be a draft: that it is none, with its first fault.
+    NoDraft(DraftFault),
 }
 
-/// The reply to a request for the board of a game, before a line if one is named. It depends only on the rules and on the request.
+/// The reply to a request to explain a game, or a draft, if the text is to be one.
+#[tactic(auto, using(crate::proofs::OnDrafts::explain_reported, crate::proofs::OnDrafts::no_draft_reported))]
+fn explain_reply(
+    alloc: Global,
+    rules: &Rules,
+    pair: &Checked<'_>,
+    game: &[u8],
+    line: Option<u32>,
+    likely: bool,
+    lead: bool,
+    draft: bool,
+) -> Result<Reply, RunFault>
+    ensures reply { IfOk result (IsExplainReply draft rules.now (list_in pair.now) game.now line likely lead) }
+    ensures memory { FailsForMemoryAlone result }
+{
+    match explained_as(alloc, rules, pair, game, line, likely, lead, draft)? {
+        Ok(explained) => Ok(Reply::Explained(explained)),
+        Err(fault) => Ok(Reply::NoDraft(fault)),
+    }
+}
+
+/// The reply to a request for what repairs a game, or a draft, if the text is to be one.
+#[tactic(auto, using(crate::proofs::OnDrafts::repair_reported, crate::proofs::OnDrafts::no_repair_reported))]
+fn repair_reply(
+    alloc: Global,
+    rules: &Rules,
+    pair: &Checked<'_>,
+    game: &[u8],
+    number: Option<u32>,
+    asked: bool,
+    draft: bool,
+) -> Result<Reply, RunFault>
+    ensures reply { IfOk result (IsRepairReply draft rules.now (list_in pair.now) game.now number asked) }
+    ensures memory { FailsForMemoryAlone result }
+{
+    match repaired_as(alloc, rules, pair, game, number, asked, draft)? {
+        Ok(repaired) => Ok(Reply::Repaired(repaired)),
+        Err(fault) => Ok(Reply::NoDraft(fault)),
+    }
+}
+
+/// The reply to a request for the board of a game, or of a draft, if the text is to be one.
+#[tactic(auto, using(crate::proofs::OnDrafts::board_reported, crate::proofs::OnDrafts::no_board_reported))]
+fn shown_reply(
+    alloc: Global,
+    rules: &Rules,
+    game: &[u8],
+    line: Option<u32>,
+    draft: bool,
+) -> Result<Reply, RunFault>
+    ensures reply { IfOk result (IsBoardReply draft rules.now line game.now) }
+    ensures memory { FailsForMemoryAlone result }
+{
+    match shown_as(alloc, rules, game, line, draft)? {
+        Ok(sheet) => Ok(Reply::Boarded(sheet)),
+        Err(fault) => Ok(Reply::NoDraft(fault)),
+    }
+}
+
+/// The reply to a request for the board of a game or of a draft, before a line if one is named. It depends only on the rules and on the request.
 ///
 /// # Errors
 ///
@@ -72,14 +135,12 @@ pub fn board_reply(
     rules: &Rules,
     game: &[u8],
     line: Option<u32>,
+    draft: bool,
 ) -> Result<Reply, RunFault>
-    ensures reply { IfOk result (IsReplyByRules rules.now (request.Board game.entry line)) }
+    ensures reply { IfOk result (IsReplyByRules rules.now (request.Board game.entry line draft)) }
     ensures memory { FailsForMemoryAlone result }
 {
-    match shown_sheet(alloc, rules, game, line) {
-        Ok(sheet) => Ok(Reply::Boarded(sheet)),
-        Err(fault) => Err(fault),
-    }
+    shown_reply(alloc, rules, game, line, draft)
 }
 
 /// The reply to a request, by rules, the words of a pair and a maker. It depends only on these. Best plays that are proved for their board and their rack are
@@ -111,13 +172,12 @@ pub fn reply_to(
             line,
             likely,
             lead,
-        } => Ok(Reply::Explained(explained(alloc, rules, pair, game, *line, *likely, *lead)?)),
+            draft,
+        } => explain_reply(alloc, rules, pair, game, *line, *likely, *lead, *draft),
         Request::Audit { game, corrected } => {
             Ok(Reply::Audited(audited_sheet(alloc, rules, pair, game, *corrected)?))
         }
-        Request::Board { game, line } => {
-            Ok(Reply::Boarded(shown_sheet(alloc, rules, game, *line)?))
-        }
+        Request::Board { game, line, draft } => shown_reply(alloc, rules, game, *line, *draft),
         Request::Top {
             game,
             line,
@@ -135,13 +195,15 @@ pub fn reply_to(
         Request::Repair {
             game,
             number,
-            repaired: asked,
-        } => Ok(Reply::Repaired(repaired(alloc, rules, pair, game, *number, *asked)?)),
+            repaired,
+            draft,
+        } => repair_reply(alloc, rules, pair, game, *number, *repaired, *draft),
         Request::Compare {
             first,
             second,
             merged,
-        } => Ok(Reply::Compared(compared(alloc, rules, pair, first, second, *merged)?)),
+            draft,
+        } => Ok(Reply::Compared(compared(alloc, rules, pair, first, second, *merged, *draft)?)),
         Request::Annotate { game, number } => {
             Ok(Reply::Annotated(annotated(alloc, rules, pair, game, *number)?))
         }

@@ -56,64 +56,64 @@ no_sheet items old new asked rules list fault read =
     gives_failed outcomes (game_source old new) [] (AreItems items) (IsFoundOn asked rules list) fault read tt
 
 -- its board
-pub on_board : {B : Type 0} (items : B → List ℕ) (old new : Device) (line : Option ℕ) (rules : Rules) (bytes : B) (reply : Reply)
-    → IsRead most_bytes old new (AreItems items) (Ok bytes) → IsBoardOn rules line (items bytes) reply
-    → Gives outcomes (game_source old new ∷ []) (IsBoardFound line rules) (Ok (Ok reply))
-on_board items old new line rules bytes reply read is =
-    gives_last outcomes (game_source old new) (AreItems items) (IsBoardFound line rules) bytes (Ok reply) read
-    (λ text means. (subst (λ t. IsBoardOn rules line t reply) means is, record { verdict_is = refl; reported = refl }))
+pub on_board : {B : Type 0} (items : B → List ℕ) (old new : Device) (line : Option ℕ) (draft : Bool) (rules : Rules) (bytes : B) (reply : Reply)
+    → IsRead most_bytes old new (AreItems items) (Ok bytes) → IsBoardOn rules line draft (items bytes) reply
+    → Gives outcomes (game_source old new ∷ []) (IsBoardFound line draft rules) (Ok (Ok reply))
+on_board items old new line draft rules bytes reply read is =
+    gives_last outcomes (game_source old new) (AreItems items) (IsBoardFound line draft rules) bytes (Ok reply) read
+    (λ text means. (subst (λ t. IsBoardOn rules line draft t reply) means is, record { verdict_is = refl; reported = refl }))
 
-pub no_board : {B : Type 0} (items : B → List ℕ) (old new : Device) (line : Option ℕ) (rules : Rules) (bytes : B) (fault : RunFault)
+pub no_board : {B : Type 0} (items : B → List ℕ) (old new : Device) (line : Option ℕ) (draft : Bool) (rules : Rules) (bytes : B) (fault : RunFault)
     → IsRead most_bytes old new (AreItems items) (Ok bytes) → fault ≡ run.NoMemory
-    → Gives outcomes (game_source old new ∷ []) (IsBoardFound line rules) (Err fault)
-no_board items old new line rules bytes fault read refused =
-    gives_stopped outcomes (game_source old new) [] (AreItems items) (IsBoardFound line rules) bytes (Err fault) read tt refused
+    → Gives outcomes (game_source old new ∷ []) (IsBoardFound line draft rules) (Err fault)
+no_board items old new line draft rules bytes fault read refused =
+    gives_stopped outcomes (game_source old new) [] (AreItems items) (IsBoardFound line draft rules) bytes (Err fault) read tt refused
 
-pub no_board_sheet : {B : Type 0} (items : B → List ℕ) (old new : Device) (line : Option ℕ) (rules : Rules) (fault : RunFault)
-    → IsRead most_bytes old new (AreItems items) (Err fault) → Gives outcomes (game_source old new ∷ []) (IsBoardFound line rules) (Err fault)
-no_board_sheet items old new line rules fault read =
-    gives_failed outcomes (game_source old new) [] (AreItems items) (IsBoardFound line rules) fault read tt
+pub no_board_sheet : {B : Type 0} (items : B → List ℕ) (old new : Device) (line : Option ℕ) (draft : Bool) (rules : Rules) (fault : RunFault)
+    → IsRead most_bytes old new (AreItems items) (Err fault) → Gives outcomes (game_source old new ∷ []) (IsBoardFound line draft rules) (Err fault)
+no_board_sheet items old new line draft rules fault read =
+    gives_failed outcomes (game_source old new) [] (AreItems items) (IsBoardFound line draft rules) fault read tt
 
 -- the second of two
-pub on_second : {B : Type 0} (items : B → List ℕ) (old new : Device) (merged : Bool) (rules : Rules) (list : List (List ℕ)) (one : List ℕ) (bytes : B) (reply : Reply)
-    → IsRead most_bytes old new (AreItems items) (Ok bytes) → IsReplyOnBoth rules list merged one (items bytes) reply
-    → Gives outcomes (game_source old new ∷ []) (IsFoundOnSecond merged rules list one) (Ok (Ok reply))
-on_second items old new merged rules list one bytes reply read is =
-    gives_last outcomes (game_source old new) (AreItems items) (IsFoundOnSecond merged rules list one) bytes (Ok reply) read
-    (λ text means. (subst (λ t. IsReplyOnBoth rules list merged one t reply) means is, record { verdict_is = refl; reported = refl }))
+pub on_second : {B : Type 0} (items : B → List ℕ) (old new : Device) (merged draft : Bool) (rules : Rules) (list : List (List ℕ)) (one : List ℕ) (bytes : B) (reply : Reply)
+    → IsRead most_bytes old new (AreItems items) (Ok bytes) → IsReplyOnBoth rules list merged draft one (items bytes) reply
+    → Gives outcomes (game_source old new ∷ []) (IsFoundOnSecond merged draft rules list one) (Ok (Ok reply))
+on_second items old new merged draft rules list one bytes reply read is =
+    gives_last outcomes (game_source old new) (AreItems items) (IsFoundOnSecond merged draft rules list one) bytes (Ok reply) read
+    (λ text means. (subst (λ t. IsReplyOnBoth rules list merged draft one t reply) means is, record { verdict_is = refl; reported = refl }))
 
-pub no_reply_on_both : {B : Type 0} (items : B → List ℕ) (old new : Device) (merged : Bool) (rules : Rules) (list : List (List ℕ)) (one : List ℕ) (bytes : B) (fault : RunFault)
+pub no_reply_on_both : {B : Type 0} (items : B → List ℕ) (old new : Device) (merged draft : Bool) (rules : Rules) (list : List (List ℕ)) (one : List ℕ) (bytes : B) (fault : RunFault)
     → IsRead most_bytes old new (AreItems items) (Ok bytes) → fault ≡ run.NoMemory
-    → Gives outcomes (game_source old new ∷ []) (IsFoundOnSecond merged rules list one) (Err fault)
-no_reply_on_both items old new merged rules list one bytes fault read refused =
-    gives_stopped outcomes (game_source old new) [] (AreItems items) (IsFoundOnSecond merged rules list one) bytes (Err fault) read tt refused
+    → Gives outcomes (game_source old new ∷ []) (IsFoundOnSecond merged draft rules list one) (Err fault)
+no_reply_on_both items old new merged draft rules list one bytes fault read refused =
+    gives_stopped outcomes (game_source old new) [] (AreItems items) (IsFoundOnSecond merged draft rules list one) bytes (Err fault) read tt refused
 
-pub no_second : {B : Type 0} (items : B → List ℕ) (old new : Device) (merged : Bool) (rules : Rules) (list : List (List ℕ)) (one : List ℕ) (fault : RunFault)
-    → IsRead most_bytes old new (AreItems items) (Err fault) → Gives outcomes (game_source old new ∷ []) (IsFoundOnSecond merged rules list one) (Err fault)
-no_second items old new merged rules list one fault read =
-    gives_failed outcomes (game_source old new) [] (AreItems items) (IsFoundOnSecond merged rules list one) fault read tt
+pub no_second : {B : Type 0} (items : B → List ℕ) (old new : Device) (merged draft : Bool) (rules : Rules) (list : List (List ℕ)) (one : List ℕ) (fault : RunFault)
+    → IsRead most_bytes old new (AreItems items) (Err fault) → Gives outcomes (game_source old new ∷ []) (IsFoundOnSecond merged draft rules list one) (Err fault)
+no_second items old new merged draft rules list one fault read =
+    gives_failed outcomes (game_source old new) [] (AreItems items) (IsFoundOnSecond merged draft rules list one) fault read tt
 
 -- both
-is_done : (merged : Bool) (rules : Rules) (list : List (List ℕ)) (one : List ℕ) (found : Result Reply Decision) (texts : List (List ℕ)) (v : Verdict) (report : List ℕ)
-    → IsFoundOnSecond merged rules list one found texts v report → v ≡ verdict.Done
-is_done merged rules list one (Ok reply) [] v report is = absurd is
-is_done merged rules list one (Ok reply) (other ∷ []) v report is = is.1.verdict_is
-is_done merged rules list one (Ok reply) (other ∷ more ∷ rest) v report is = absurd is
-is_done merged rules list one (Err d) texts v report is = absurd is
+is_done : (merged draft : Bool) (rules : Rules) (list : List (List ℕ)) (one : List ℕ) (found : Result Reply Decision) (texts : List (List ℕ)) (v : Verdict) (report : List ℕ)
+    → IsFoundOnSecond merged draft rules list one found texts v report → v ≡ verdict.Done
+is_done merged draft rules list one (Ok reply) [] v report is = absurd is
+is_done merged draft rules list one (Ok reply) (other ∷ []) v report is = is.1.verdict_is
+is_done merged draft rules list one (Ok reply) (other ∷ more ∷ rest) v report is = absurd is
+is_done merged draft rules list one (Err d) texts v report is = absurd is
 
 done_is_not_bad : (v : Verdict) → v ≡ verdict.Done → v ≡ verdict.BadRecord → ⊥
 done_is_not_bad v done bad = let both = subst (λ w. w ≡ verdict.BadRecord) done bad in cc
 
-pub on_both : {B : Type 0} (items : B → List ℕ) (old new second_old second_new : Device) (merged : Bool) (rules : Rules) (list : List (List ℕ)) (bytes : B) (result : Result (Result Reply Decision) RunFault)
-    → IsRead most_bytes old new (AreItems items) (Ok bytes) → Gives outcomes (game_source second_old second_new ∷ []) (IsFoundOnSecond merged rules list (items bytes)) result
-    → Gives outcomes (game_source old new ∷ game_source second_old second_new ∷ []) (IsFoundOnBoth merged rules list) result
-on_both items old new second_old second_new merged rules list bytes result read next =
-    gives_good outcomes (game_source old new) (game_source second_old second_new ∷ []) (AreItems items) (IsFoundOnSecond merged rules list (items bytes)) (IsFoundOnBoth merged rules list) bytes result read
-    next (λ found text rest v report means is. subst (λ t. IsFoundOnSecond merged rules list t found rest v report) means is)
-    (λ found rest v report is. done_is_not_bad v (is_done merged rules list (items bytes) found rest v report is))
+pub on_both : {B : Type 0} (items : B → List ℕ) (old new second_old second_new : Device) (merged draft : Bool) (rules : Rules) (list : List (List ℕ)) (bytes : B) (result : Result (Result Reply Decision) RunFault)
+    → IsRead most_bytes old new (AreItems items) (Ok bytes) → Gives outcomes (game_source second_old second_new ∷ []) (IsFoundOnSecond merged draft rules list (items bytes)) result
+    → Gives outcomes (game_source old new ∷ game_source second_old second_new ∷ []) (IsFoundOnBoth merged draft rules list) result
+on_both items old new second_old second_new merged draft rules list bytes result read next =
+    gives_good outcomes (game_source old new) (game_source second_old second_new ∷ []) (AreItems items) (IsFoundOnSecond merged draft rules list (items bytes)) (IsFoundOnBoth merged draft rules list) bytes result read
+    next (λ found text rest v report means is. subst (λ t. IsFoundOnSecond merged draft rules list t found rest v report) means is)
+    (λ found rest v report is. done_is_not_bad v (is_done merged draft rules list (items bytes) found rest v report is))
 
-pub no_first : {B : Type 0} (items : B → List ℕ) (old new second : Device) (merged : Bool) (rules : Rules) (list : List (List ℕ)) (fault : RunFault)
+pub no_first : {B : Type 0} (items : B → List ℕ) (old new second : Device) (merged draft : Bool) (rules : Rules) (list : List (List ℕ)) (fault : RunFault)
     → IsRead most_bytes old new (AreItems items) (Err fault)
-    → Gives outcomes (game_source old new ∷ game_source second second ∷ []) (IsFoundOnBoth merged rules list) (Err fault)
-no_first items old new second merged rules list fault read =
-    gives_failed outcomes (game_source old new) (game_source second second ∷ []) (AreItems items) (IsFoundOnBoth merged rules list) fault read (refl, tt)
+    → Gives outcomes (game_source old new ∷ game_source second second ∷ []) (IsFoundOnBoth merged draft rules list) (Err fault)
+no_first items old new second merged draft rules list fault read =
+    gives_failed outcomes (game_source old new) (game_source second second ∷ []) (AreItems items) (IsFoundOnBoth merged draft rules list) fault read (refl, tt)

@@ -37,12 +37,12 @@ pub record IsReplyOn (rules : Rules) (list : List (List ℕ)) (asked : Task) (te
   pub is_reply : IsReplyBy rules list (request_of asked sheet) reply
 
 -- the reply to the request to compare the sheets with these bytes
-pub record IsReplyOnBoth (rules : Rules) (list : List (List ℕ)) (merged : Bool) (one other : List ℕ) (reply : Reply) : Type 0 where
+pub record IsReplyOnBoth (rules : Rules) (list : List (List ℕ)) (merged draft : Bool) (one other : List ℕ) (reply : Reply) : Type 0 where
   pub first : Bor (List ℕ)
   pub second : Bor (List ℕ)
   pub first_bytes : first.now ≡ one
   pub second_bytes : second.now ≡ other
-  pub is_reply : IsReplyBy rules list (request.Compare first second merged) reply
+  pub is_reply : IsReplyBy rules list (request.Compare first second merged draft) reply
 
 -- what is found once the sheet is read
 abbrev pub IsFoundOn : Task → Rules → (list : List (List ℕ)) → Result Reply Decision → (texts : List (List ℕ)) → Verdict → List ℕ → Type 0
@@ -50,24 +50,24 @@ IsFoundOn asked rules list (Ok reply) texts v report = ReadsNext (λ text. Reads
 IsFoundOn asked rules list (Err d) texts v report = ⊥
 
 -- what is found once the second of two sheets is read, and once both are
-abbrev pub IsFoundOnSecond : (merged : Bool) → Rules → (list : List (List ℕ)) → (one : List ℕ) → Result Reply Decision → (texts : List (List ℕ)) → Verdict → List ℕ → Type 0
-IsFoundOnSecond merged rules list one (Ok reply) texts v report =
-    ReadsNext (λ other. ReadsNoMore (λ w said. IsReplyOnBoth rules list merged one other reply × IsReported verdict.Done [] w said)) texts v report
-IsFoundOnSecond merged rules list one (Err d) texts v report = ⊥
+abbrev pub IsFoundOnSecond : (merged draft : Bool) → Rules → (list : List (List ℕ)) → (one : List ℕ) → Result Reply Decision → (texts : List (List ℕ)) → Verdict → List ℕ → Type 0
+IsFoundOnSecond merged draft rules list one (Ok reply) texts v report =
+    ReadsNext (λ other. ReadsNoMore (λ w said. IsReplyOnBoth rules list merged draft one other reply × IsReported verdict.Done [] w said)) texts v report
+IsFoundOnSecond merged draft rules list one (Err d) texts v report = ⊥
 
-abbrev pub IsFoundOnBoth : (merged : Bool) → Rules → (list : List (List ℕ)) → Result Reply Decision → (texts : List (List ℕ)) → Verdict → List ℕ → Type 0
-IsFoundOnBoth merged rules list found texts v report = ReadsNext (λ one. IsFoundOnSecond merged rules list one found) texts v report
+abbrev pub IsFoundOnBoth : (merged draft : Bool) → Rules → (list : List (List ℕ)) → Result Reply Decision → (texts : List (List ℕ)) → Verdict → List ℕ → Type 0
+IsFoundOnBoth merged draft rules list found texts v report = ReadsNext (λ one. IsFoundOnSecond merged draft rules list one found) texts v report
 
--- the reply to the request for the board of the sheet with these bytes, before a line if one is named
-pub record IsBoardOn (rules : Rules) (line : Option ℕ) (text : List ℕ) (reply : Reply) : Type 0 where
+-- the reply to the request for the board of the sheet, or of the draft, with these bytes, before a line if one is named
+pub record IsBoardOn (rules : Rules) (line : Option ℕ) (draft : Bool) (text : List ℕ) (reply : Reply) : Type 0 where
   pub sheet : Bor (List ℕ)
   pub bytes : sheet.now ≡ text
-  pub is_reply : IsReplyByRules rules (request.Board sheet line) reply
+  pub is_reply : IsReplyByRules rules (request.Board sheet line draft) reply
 
 -- what is found once the rules and the sheet are read, without words
-abbrev pub IsBoardFound : (line : Option ℕ) → Rules → Result Reply Decision → (texts : List (List ℕ)) → Verdict → List ℕ → Type 0
-IsBoardFound line rules (Ok reply) texts v report = ReadsNext (λ text. ReadsNoMore (λ w said. IsBoardOn rules line text reply × IsReported verdict.Done [] w said)) texts v report
-IsBoardFound line rules (Err d) texts v report = ⊥
+abbrev pub IsBoardFound : (line : Option ℕ) → (draft : Bool) → Rules → Result Reply Decision → (texts : List (List ℕ)) → Verdict → List ℕ → Type 0
+IsBoardFound line draft rules (Ok reply) texts v report = ReadsNext (λ text. ReadsNoMore (λ w said. IsBoardOn rules line draft text reply × IsReported verdict.Done [] w said)) texts v report
+IsBoardFound line draft rules (Err d) texts v report = ⊥
 
 -- ---- none of these says that an input that is read before is bad
 
@@ -90,21 +90,21 @@ found_later asked rules list (Ok reply) (text ∷ []) v report is = later_as v i
 found_later asked rules list (Ok reply) (text ∷ more ∷ rest) v report is = absurd is
 found_later asked rules list (Err d) texts v report is = absurd is
 
-pub board_later : (line : Option ℕ) (rules : Rules) (found : Result Reply Decision) (texts : List (List ℕ)) (v : Verdict) (report : List ℕ)
-    → IsBoardFound line rules found texts v report → IsLater v
-board_later line rules (Ok reply) [] v report is = absurd is
-board_later line rules (Ok reply) (text ∷ []) v report is = later_as v is.1.verdict_is
-board_later line rules (Ok reply) (text ∷ more ∷ rest) v report is = absurd is
-board_later line rules (Err d) texts v report is = absurd is
+pub board_later : (line : Option ℕ) (draft : Bool) (rules : Rules) (found : Result Reply Decision) (texts : List (List ℕ)) (v : Verdict) (report : List ℕ)
+    → IsBoardFound line draft rules found texts v report → IsLater v
+board_later line draft rules (Ok reply) [] v report is = absurd is
+board_later line draft rules (Ok reply) (text ∷ []) v report is = later_as v is.1.verdict_is
+board_later line draft rules (Ok reply) (text ∷ more ∷ rest) v report is = absurd is
+board_later line draft rules (Err d) texts v report is = absurd is
 
-pub second_later : (merged : Bool) (rules : Rules) (list : List (List ℕ)) (one : List ℕ) (found : Result Reply Decision) (texts : List (List ℕ)) (v : Verdict) (report : List ℕ)
-    → IsFoundOnSecond merged rules list one found texts v report → IsLater v
-second_later merged rules list one (Ok reply) [] v report is = absurd is
-second_later merged rules list one (Ok reply) (other ∷ []) v report is = later_as v is.1.verdict_is
-second_later merged rules list one (Ok reply) (other ∷ more ∷ rest) v report is = absurd is
-second_later merged rules list one (Err d) texts v report is = absurd is
+pub second_later : (merged draft : Bool) (rules : Rules) (list : List (List ℕ)) (one : List ℕ) (found : Result Reply Decision) (texts : List (List ℕ)) (v : Verdict) (report : List ℕ)
+    → IsFoundOnSecond merged draft rules list one found texts v report → IsLater v
+second_later merged draft rules list one (Ok reply) [] v report is = absurd is
+second_later merged draft rules list one (Ok reply) (other ∷ []) v report is = later_as v is.1.verdict_is
+second_later merged draft rules list one (Ok reply) (other ∷ more ∷ rest) v report is = absurd is
+second_later merged draft rules list one (Err d) texts v report is = absurd is
 
-pub both_later : (merged : Bool) (rules : Rules) (list : List (List ℕ)) (found : Result Reply Decision) (texts : List (List ℕ)) (v : Verdict) (report : List ℕ)
-    → IsFoundOnBoth merged rules list found texts v report → IsLater v
-both_later merged rules list found [] v report is = absurd is
-both_later merged rules list found (one ∷ rest) v report is = second_later merged rules list one found rest v report is
+pub both_later : (merged draft : Bool) (rules : Rules) (list : List (List ℕ)) (found : Result Reply Decision) (texts : List (List ℕ)) (v : Verdict) (report : List ℕ)
+    → IsFoundOnBoth merged draft rules list found texts v report → IsLater v
+both_later merged draft rules list found [] v report is = absurd is
+both_later merged draft rules list found (one ∷ rest) v report is = second_later merged draft rules list one found rest v report is

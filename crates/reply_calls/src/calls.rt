@@ -112,7 +112,7 @@ pub fn answer_sheet<
     }
 }
 
-/// The same with two sheets, which are compared; `merged` says whether the merged record is requested.
+/// The same with two sheets, which are compared; `merged` says whether the merged record is requested, and `draft` whether the texts are those of drafts.
 ///
 /// Exactly the report is written which shows what was found, by the rendering; the status is that of what was found. No input is read further than
 /// one byte past its limit.
@@ -132,6 +132,7 @@ pub fn answer_sheets<
 >(
     alloc: Global,
     merged: bool,
+    draft: bool,
     rules: &mut S,
     words: &mut W,
     lexicon: &mut L,
@@ -149,11 +150,12 @@ pub fn answer_sheets<
     ensures { IsReplying (pair_sources (S.known rules.old) (S.text rules.old) (S.text rules.new) (W.device words.old) (W.device words.new)
         (L.device lexicon.old) (L.device lexicon.new)
         (game_source (G.device sheets.old.first) (G.device sheets.new.first) ∷ game_source (G.device sheets.old.second) (G.device sheets.new.second) ∷ []))
-        (λ found. ReadsPair (S.known rules.old) (λ stated list. IsFoundOnBoth merged stated list found))
+        (λ found. ReadsPair (S.known rules.old) (λ stated list. IsFoundOnBoth merged draft stated list found))
         (T.shows rendering.now) (K.holds kept.new) (O.device out.old) (O.device out.new) result }
 {
     let question = SheetsQuestion {
         merged,
+        draft,
         pages: rendering,
     };
     match ask(alloc, &question, rules, words, lexicon, sheets) {
@@ -163,7 +165,7 @@ pub fn answer_sheets<
 }
 
 /// Reads the rules if they are not known and a sheet, in this order until one is bad, and writes what is found: the reply to the request for the board of
-/// the sheet, before a line if one is named, or that the rules are bad. No words are read.
+/// the sheet, or of the draft, if it is to be one, before a line if one is named; or that the rules are bad. No words are read.
 ///
 /// Exactly the report is written which shows what was found, by the rendering; the status is that of what was found. No input is read further than
 /// one byte past its limit.
@@ -175,6 +177,7 @@ pub fn answer_sheets<
 pub fn answer_board<S: RulesSource, G: Input, T: Rendering, K: Outlet, O: Output>(
     alloc: Global,
     line: Option<u32>,
+    draft: bool,
     rules: &mut S,
     sheet: &mut G,
     rendering: &T,
@@ -185,10 +188,10 @@ pub fn answer_board<S: RulesSource, G: Input, T: Rendering, K: Outlet, O: Output
     requires sheet { HasRoom (G.device sheet.old) }
     requires out { HasRoom (O.device out.old) }
     ensures { IsReplying (rules_sources (S.known rules.old) (S.text rules.old) (S.text rules.new) ++ game_source (G.device sheet.old) (G.device sheet.new) ∷ [])
-        (λ found. ReadsRulesBut (S.known rules.old) (λ stated. IsBoardFound line stated found))
+        (λ found. ReadsRulesBut (S.known rules.old) (λ stated. IsBoardFound line draft stated found))
         (T.shows rendering.now) (K.holds kept.new) (O.device out.old) (O.device out.new) result }
 {
-    match find_board_by_rules(alloc, rules, sheet, line) {
+    match find_board_by_rules(alloc, rules, sheet, line, draft) {
         Ok(found) => write_found(alloc, rendering, found, kept, out),
         Err(fault) => Err(fault),
     }

@@ -90,14 +90,16 @@ fn reply_on_both<S, W, T: PageMaker<S, W>>(
     first: &[u8],
     second: &[u8],
     merged: bool,
+    draft: bool,
 ) -> Result<Reply, RunFault>
-    ensures reply { IfOk result (IsReplyOnBoth given.now.rules.now (list_in given.now.pair.now) merged first.now second.now) }
+    ensures reply { IfOk result (IsReplyOnBoth given.now.rules.now (list_in given.now.pair.now) merged draft first.now second.now) }
     ensures memory { FailsForMemoryAlone result }
 {
     let request = Request::Compare {
         first,
         second,
         merged,
+        draft,
     };
     reply_by(alloc, given, pages, &request)
 }
@@ -133,16 +135,20 @@ fn find_on_second<S, W, T: PageMaker<S, W>, G: Input>(
     first: &[u8],
     second: &mut G,
     merged: bool,
+    draft: bool,
 ) -> Result<Result<Reply, Decision>, RunFault>
     requires { HasRoom (G.device second.old) }
     ensures { Gives outcomes (game_source (G.device second.old) (G.device second.new) ∷ [])
-        (IsFoundOnSecond merged given.now.rules.now (list_in given.now.pair.now) first.now) result }
+        (IsFoundOnSecond merged draft given.now.rules.now (list_in given.now.pair.now) first.now) result }
 {
     match read_sheet(alloc, second) {
-        Ok(text) => match reply_on_both(alloc, given, pages, first, text.as_slice(), merged) {
-            Ok(reply) => Ok(Ok(reply)),
-            Err(fault) => Err(fault),
-        },
+        Ok(text) => {
+            let other = text.as_slice();
+            match reply_on_both(alloc, given, pages, first, other, merged, draft) {
+                Ok(reply) => Ok(Ok(reply)),
+                Err(fault) => Err(fault),
+            }
+        }
         Err(fault) => Err(fault),
     }
 }
@@ -156,24 +162,31 @@ pub fn find_on_both<S, W, T: PageMaker<S, W>, G: Input>(
     first: &mut G,
     second: &mut G,
     merged: bool,
+    draft: bool,
 ) -> Result<Result<Reply, Decision>, RunFault>
     requires first { HasRoom (G.device first.old) }
     requires second { HasRoom (G.device second.old) }
     ensures { Gives outcomes (game_source (G.device first.old) (G.device first.new) ∷ game_source (G.device second.old) (G.device second.new) ∷ [])
-        (IsFoundOnBoth merged given.now.rules.now (list_in given.now.pair.now)) result }
+        (IsFoundOnBoth merged draft given.now.rules.now (list_in given.now.pair.now)) result }
 {
     match read_sheet(alloc, first) {
-        Ok(text) => find_on_second(alloc, given, pages, text.as_slice(), second, merged),
+        Ok(text) => find_on_second(alloc, given, pages, text.as_slice(), second, merged, draft),
         Err(fault) => Err(fault),
     }
 }
 
-/// The reply to the request for the board of a sheet with these bytes.
-fn board_on(alloc: Global, rules: &Rules, text: &[u8], line: Option<u32>) -> Result<Reply, RunFault>
-    ensures reply { IfOk result (IsBoardOn rules.now line text.now) }
+/// The reply to the request for the board of a sheet, or of a draft, with these bytes.
+fn board_on(
+    alloc: Global,
+    rules: &Rules,
+    text: &[u8],
+    line: Option<u32>,
+    draft: bool,
+) -> Result<Reply, RunFault>
+    ensures reply { IfOk result (IsBoardOn rules.now line draft text.now) }
     ensures memory { FailsForMemoryAlone result }
 {
-    board_reply(alloc, rules, text, line)
+    board_reply(alloc, rules, text, line, draft)
 }
 
 /// Reads a sheet, and finds its board.
@@ -183,12 +196,13 @@ fn find_board<G: Input>(
     rules: &Rules,
     sheet: &mut G,
     line: Option<u32>,
+    draft: bool,
 ) -> Result<Result<Reply, Decision>, RunFault>
     requires { HasRoom (G.device sheet.old) }
-    ensures { Gives outcomes (game_source (G.device sheet.old) (G.device sheet.new) ∷ []) (IsBoardFound line rules.now) result }
+    ensures { Gives outcomes (game_source (G.device sheet.old) (G.device sheet.new) ∷ []) (IsBoardFound line draft rules.now) result }
 {
     match read_sheet(alloc, sheet) {
-        Ok(text) => match board_on(alloc, rules, text.as_slice(), line) {
+        Ok(text) => match board_on(alloc, rules, text.as_slice(), line, draft) {
             Ok(reply) => Ok(Ok(reply)),
             Err(fault) => Err(fault),
         },
@@ -202,14 +216,15 @@ pub fn find_board_by_rules<S: RulesSource, G: Input>(
     rules: &mut S,
     sheet: &mut G,
     line: Option<u32>,
+    draft: bool,
 ) -> Result<Result<Reply, Decision>, RunFault>
     requires rules { HasRoom (S.text rules.old) }
     requires sheet { HasRoom (G.device sheet.old) }
     ensures { Gives outcomes (rules_sources (S.known rules.old) (S.text rules.old) (S.text rules.new) ++ game_source (G.device sheet.old) (G.device sheet.new) ∷ [])
-        (λ found. ReadsRulesBut (S.known rules.old) (λ stated. IsBoardFound line stated found)) result }
+        (λ found. ReadsRulesBut (S.known rules.old) (λ stated. IsBoardFound line draft stated found)) result }
 {
     match rules.read(alloc) {
-        Ok(Ok(stated)) => find_board(alloc, &stated, sheet, line),
+        Ok(Ok(stated)) => find_board(alloc, &stated, sheet, line, draft),
         Ok(Err(decision)) => Ok(Err(decision)),
         Err(fault) => Err(fault),
     }

@@ -51,6 +51,8 @@ pub struct SheetQuestion<'a, T> {
 pub struct SheetsQuestion<'a, T> {
     /// Whether the merged record is requested.
     pub merged: bool,
+    /// Whether the texts are those of drafts.
+    pub draft: bool,
     /// What says what pages are made by.
     pub pages: &'a T,
 }
@@ -108,7 +110,7 @@ impl<S, W, G: Input, T: PageMaker<S, W>> Question<S, W, TwoSheets<G>> for Sheets
 
     ghost is_ready = { λ more. HasRoom (G.device more.first) × HasRoom (G.device more.second) };
 
-    ghost is_answer = { λ question rules words x texts v report. IsFoundOnBoth question.merged rules words x texts v report };
+    ghost is_answer = { λ question rules words x texts v report. IsFoundOnBoth question.merged question.draft rules words x texts v report };
 
     fn answer(
         &self,
@@ -123,10 +125,11 @@ impl<S, W, G: Input, T: PageMaker<S, W>> Question<S, W, TwoSheets<G>> for Sheets
             &mut more.first,
             &mut more.second,
             self.merged,
+            self.draft,
         )
     }
 
     ghost still = { λ more. (refl, (refl, tt)) };
 
-    ghost later = { λ question rules words x texts v report is. both_later question.merged rules words x texts v report is };
+    ghost later = { λ question rules words x texts v report is. both_later question.merged question.draft rules words x texts v report is };
 }

@@ -1,5 +1,5 @@
 -- Requests and refusals as the definitions give them, computed.
-use Rattle.std.proofs.Common.{◌≡◌, inl, inr, ℕ, true, List, codes, Some, refl, sym, subst}
+use Rattle.std.proofs.Common.{◌≡◌, inl, inr, ℕ, true, false, List, codes, Some, None, refl, sym, subst}
 use Rattle.std.specs.Borrow.{Bor}
 use Rattle.serde_json.specs.Data.{Data, unsigned, null, boolean, number, string, array, object, Members, no_members, member, no_items}
 use Rattle.serde_json.proofs.OnLiterals.{serde_json_on_literals}
@@ -24,9 +24,25 @@ its_keys key (inr (inl is)) = inr (inr (inl is))
 its_keys key (inr (inr (inl is))) = inr (inr (inr (inl is)))
 its_keys key (inr (inr (inr none))) = absurd none
 
-board_is_asked_for : (game : Bor (List ℕ)) → game.now ≡ codes "A" → IsRequestIn a_board (request.Board game (Some 3))
+board_is_asked_for : (game : Bor (List ℕ)) → game.now ≡ codes "A" → IsRequestIn a_board (request.Board game (Some 3) false)
 unfolding serde_json_on_literals
-board_is_asked_for game is = record { named = refl; keys = its_keys; says = (subst (λ text. text_said (codes "game") a_board ≡ Some (Some text)) (sym is) refl, refl) }
+board_is_asked_for game is =
+    record { named = refl; keys = its_keys; says = (subst (λ text. text_said (codes "game") a_board ≡ Some (Some text)) (sym is) refl, refl, (None, refl, refl)) }
+
+-- {"do": "board", "draft": true, "game": "A"}: the board of a draft
+abbrev a_draft : Data
+a_draft = asking (codes "board") (member (codes "draft") (boolean true) (member (codes "game") (string (codes "A")) no_members))
+
+draft_keys : HasOnlyKeysOf command.Board a_draft
+draft_keys key (inl is) = inr (inl is)
+draft_keys key (inr (inl is)) = inr (inr (inr (inr (inl is))))
+draft_keys key (inr (inr (inl is))) = inr (inr (inl is))
+draft_keys key (inr (inr (inr none))) = absurd none
+
+draft_is_asked_for : (game : Bor (List ℕ)) → game.now ≡ codes "A" → IsRequestIn a_draft (request.Board game None true)
+unfolding serde_json_on_literals
+draft_is_asked_for game is =
+    record { named = refl; keys = draft_keys; says = (subst (λ text. text_said (codes "game") a_draft ≡ Some (Some text)) (sym is) refl, refl, (Some true, refl, refl)) }
 
 -- {"do": "board", "settle": true}: a board has no `settle`; and a game is missing
 abbrev settled_board : Data
@@ -37,7 +53,8 @@ no_settle (inl is) = cc
 no_settle (inr (inl is)) = cc
 no_settle (inr (inr (inl is))) = cc
 no_settle (inr (inr (inr (inl is)))) = cc
-no_settle (inr (inr (inr (inr none)))) = absurd none
+no_settle (inr (inr (inr (inr (inl is))))) = cc
+no_settle (inr (inr (inr (inr (inr none))))) = absurd none
 
 settle_is_refused : (key : Bor (List ℕ)) → key.now ≡ codes "settle" → IsReason settled_board (refusal.NoSuchKey command.Board key)
 unfolding serde_json_on_literals

@@ -57,16 +57,16 @@ texts_data texts = array (items_of (map text_data texts))
 -- the command that a request is for
 abbrev pub command_of : Request → Command
 command_of (request.Judge game settle best) = command.Judge
-command_of (request.Explain game line likely lead) = command.Explain
+command_of (request.Explain game line likely lead draft) = command.Explain
 command_of (request.Audit game corrected) = command.Audit
-command_of (request.Board game line) = command.Board
+command_of (request.Board game line draft) = command.Board
 command_of (request.Top game line rack plays) = command.Top
 command_of (request.Word words) = command.Word
 command_of request.Check = command.Check
 command_of (request.Tidy game) = command.Tidy
 command_of (request.Page game likely) = command.Page
-command_of (request.Repair game many repaired) = command.Repair
-command_of (request.Compare first second merged) = command.Compare
+command_of (request.Repair game many repaired draft) = command.Repair
+command_of (request.Compare first second merged draft) = command.Compare
 command_of (request.Annotate game many) = command.Annotate
 command_of (request.Fill draft filled) = command.Fill
 command_of (request.Next draft) = command.Next
@@ -74,16 +74,16 @@ command_of (request.Next draft) = command.Next
 -- the keys that a request for a command may have besides `id` and `do`
 abbrev pub keys_of : Command → List (List ℕ)
 keys_of command.Judge = codes "game" ∷ codes "settle" ∷ codes "best" ∷ []
-keys_of command.Explain = codes "game" ∷ codes "line" ∷ codes "likely" ∷ []
+keys_of command.Explain = codes "game" ∷ codes "line" ∷ codes "likely" ∷ codes "draft" ∷ []
 keys_of command.Audit = codes "game" ∷ codes "corrected" ∷ []
-keys_of command.Board = codes "game" ∷ codes "line" ∷ []
+keys_of command.Board = codes "game" ∷ codes "line" ∷ codes "draft" ∷ []
 keys_of command.Top = codes "game" ∷ codes "line" ∷ codes "rack" ∷ codes "number" ∷ []
 keys_of command.Word = codes "words" ∷ []
 keys_of command.Check = []
 keys_of command.Tidy = codes "game" ∷ []
 keys_of command.Page = codes "game" ∷ codes "likely" ∷ []
-keys_of command.Repair = codes "game" ∷ codes "number" ∷ codes "repaired" ∷ []
-keys_of command.Compare = codes "first" ∷ codes "second" ∷ codes "merged" ∷ []
+keys_of command.Repair = codes "game" ∷ codes "number" ∷ codes "repaired" ∷ codes "draft" ∷ []
+keys_of command.Compare = codes "first" ∷ codes "second" ∷ codes "merged" ∷ codes "draft" ∷ []
 keys_of command.Annotate = codes "game" ∷ codes "number" ∷ []
 keys_of command.Fill = codes "draft" ∷ codes "filled" ∷ []
 keys_of command.Next = codes "draft" ∷ []
@@ -117,9 +117,10 @@ HasOnlyKeysOf asked d = (key : List ℕ) → IsAmong (keys_in d) key → MayHave
 abbrev pub Says : Data → Request → Type 0
 Says d (request.Judge game settle best) = IsGame d game.now × IsFlag (codes "settle") false d settle × IsFlag (codes "best") true d best
 -- A request in JSON never asks who is ahead: the command line does, for a text.
-Says d (request.Explain game line likely lead) = IsGame d game.now × (line_said d ≡ Some line) × IsFlag (codes "likely") true d likely × (lead ≡ false)
+Says d (request.Explain game line likely lead draft) =
+    IsGame d game.now × (line_said d ≡ Some line) × IsFlag (codes "likely") true d likely × IsFlag (codes "draft") false d draft × (lead ≡ false)
 Says d (request.Audit game corrected) = IsGame d game.now × IsFlag (codes "corrected") false d corrected
-Says d (request.Board game line) = IsGame d game.now × (line_said d ≡ Some line)
+Says d (request.Board game line draft) = IsGame d game.now × (line_said d ≡ Some line) × IsFlag (codes "draft") false d draft
 Says d (request.Top game line rack plays) =
     IsGame d game.now × (line_said d ≡ Some line) × (text_said (codes "rack") d ≡ Some (option_copied rack)) × (number_asked d ≡ Some plays)
     × ((line ≡ None) → (rack ≡ None) → ⊥)
@@ -127,8 +128,10 @@ Says d (request.Word words) = (value_at (codes "words") d ≡ Some (texts_data w
 Says d request.Check = Unit {0}
 Says d (request.Tidy game) = IsGame d game.now
 Says d (request.Page game likely) = IsGame d game.now × IsFlag (codes "likely") true d likely
-Says d (request.Repair game many repaired) = IsGame d game.now × (number_asked d ≡ Some many) × IsFlag (codes "repaired") false d repaired
-Says d (request.Compare first second merged) = IsSheet (codes "first") d first.now × IsSheet (codes "second") d second.now × IsFlag (codes "merged") false d merged
+Says d (request.Repair game many repaired draft) =
+    IsGame d game.now × (number_asked d ≡ Some many) × IsFlag (codes "repaired") false d repaired × IsFlag (codes "draft") false d draft
+Says d (request.Compare first second merged draft) =
+    IsSheet (codes "first") d first.now × IsSheet (codes "second") d second.now × IsFlag (codes "merged") false d merged × IsFlag (codes "draft") false d draft
 Says d (request.Annotate game many) = IsGame d game.now × (number_asked d ≡ Some many)
 Says d (request.Fill draft filled) = IsSheet (codes "draft") d draft.now × IsFlag (codes "filled") false d filled
 Says d (request.Next draft) = IsSheet (codes "draft") d draft.now

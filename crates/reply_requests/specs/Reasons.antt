@@ -62,17 +62,19 @@ IsBadNumber d why = IsNoNumber 1 100 (codes "number") d why
 -- A value that the command needs is not given as it has to be. Only where words are read may memory be refused.
 abbrev pub IsBadFor : Command → Data → Refusal → Type 0
 IsBadFor command.Judge d why = IsBadGame command.Judge d why ⊎ (IsNoFlag (codes "settle") d why ⊎ IsNoFlag (codes "best") d why)
-IsBadFor command.Explain d why = IsBadGame command.Explain d why ⊎ (IsBadLine d why ⊎ IsNoFlag (codes "likely") d why)
+IsBadFor command.Explain d why = IsBadGame command.Explain d why ⊎ (IsBadLine d why ⊎ (IsNoFlag (codes "likely") d why ⊎ IsNoFlag (codes "draft") d why))
 IsBadFor command.Audit d why = IsBadGame command.Audit d why ⊎ IsNoFlag (codes "corrected") d why
-IsBadFor command.Board d why = IsBadGame command.Board d why ⊎ IsBadLine d why
+IsBadFor command.Board d why = IsBadGame command.Board d why ⊎ (IsBadLine d why ⊎ IsNoFlag (codes "draft") d why)
 IsBadFor command.Top d why =
     IsBadGame command.Top d why ⊎ (IsBadLine d why ⊎ (IsNoText (codes "rack") d why ⊎ (IsBadNumber d why ⊎ LacksRack d why)))
 IsBadFor command.Word d why = IsNoList (codes "words") d why ⊎ (LacksWords d why ⊎ (why ≡ refusal.NoMemory))
 IsBadFor command.Check d why = ⊥
 IsBadFor command.Tidy d why = IsBadGame command.Tidy d why
 IsBadFor command.Page d why = IsBadGame command.Page d why ⊎ IsNoFlag (codes "likely") d why
-IsBadFor command.Repair d why = IsBadGame command.Repair d why ⊎ (IsBadNumber d why ⊎ IsNoFlag (codes "repaired") d why)
-IsBadFor command.Compare d why = IsBadSheet (codes "first") command.Compare d why ⊎ (IsBadSheet (codes "second") command.Compare d why ⊎ IsNoFlag (codes "merged") d why)
+IsBadFor command.Repair d why = IsBadGame command.Repair d why ⊎ (IsBadNumber d why ⊎ (IsNoFlag (codes "repaired") d why ⊎ IsNoFlag (codes "draft") d why))
+IsBadFor command.Compare d why =
+    IsBadSheet (codes "first") command.Compare d why
+    ⊎ (IsBadSheet (codes "second") command.Compare d why ⊎ (IsNoFlag (codes "merged") d why ⊎ IsNoFlag (codes "draft") d why))
 IsBadFor command.Annotate d why = IsBadGame command.Annotate d why ⊎ IsBadNumber d why
 IsBadFor command.Fill d why = IsBadSheet (codes "draft") command.Fill d why ⊎ IsNoFlag (codes "filled") d why
 IsBadFor command.Next d why = IsBadSheet (codes "draft") command.Next d why

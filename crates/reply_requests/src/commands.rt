@@ -1,6 +1,6 @@
 //! The commands that a request may name, and what each of them has.
 ghost use Rattle.std.specs.Prelude.{◌≡◌, true, false, IfNone, IfSome};
-ghost use Rattle.reply_requests.specs.Asked.{name_of, MayHave};
+ghost use Rattle.reply_requests.specs.Asked.{name_of, keys_of, IsAmong, MayHave};
 ghost use Rattle.reply_requests.specs.Reasons.{IsNoName};
 
 /// A command.
@@ -83,6 +83,29 @@ impl Command {
         }
     }
 
+    /// Whether a request for it may have a member with this key besides `id` and `do`.
+    fn has(self, key: &str) -> bool
+        ensures key { result ≡ true → IsAmong (keys_of self) key.now }
+        ensures none { result ≡ false → IsAmong (keys_of self) key.now → ⊥ }
+    {
+        match self {
+            Command::Judge => matches!(key, "game" | "settle" | "best"),
+            Command::Explain => matches!(key, "game" | "line" | "likely" | "draft"),
+            Command::Audit => matches!(key, "game" | "corrected"),
+            Command::Board => matches!(key, "game" | "line" | "draft"),
+            Command::Top => matches!(key, "game" | "line" | "rack" | "number"),
+            Command::Word => key == "words",
+            Command::Check => false,
+            Command::Tidy => key == "game",
+            Command::Page => matches!(key, "game" | "likely"),
+            Command::Repair => matches!(key, "game" | "number" | "repaired" | "draft"),
+            Command::Compare => matches!(key, "first" | "second" | "merged" | "draft"),
+            Command::Annotate => matches!(key, "game" | "number"),
+            Command::Fill => matches!(key, "draft" | "filled"),
+            Command::Next => key == "draft",
+        }
+    }
+
     /// Whether a request for it may have a member with this key.
     pub fn may_have(self, key: &str) -> bool
         ensures key { result ≡ true → MayHave self key.now }
@@ -90,22 +113,7 @@ impl Command {
     {
         match key {
             "id" | "do" => true,
-            "game" => !matches!(
-                self,
-                Command::Word | Command::Check | Command::Compare | Command::Fill | Command::Next
-            ),
-            "draft" => matches!(self, Command::Fill | Command::Next),
-            "filled" => self == Command::Fill,
-            "first" | "second" | "merged" => self == Command::Compare,
-            "settle" | "best" => self == Command::Judge,
-            "corrected" => self == Command::Audit,
-            "repaired" => self == Command::Repair,
-            "likely" => matches!(self, Command::Explain | Command::Page),
-            "line" => matches!(self, Command::Explain | Command::Board | Command::Top),
-            "rack" => self == Command::Top,
-            "number" => matches!(self, Command::Top | Command::Repair | Command::Annotate),
-            "words" => self == Command::Word,
-            _ => false,
+            _ => self.has(key),
         }
     }
 }

@@ -1,9 +1,9 @@
 //! What an object requests.
-ghost use Rattle.std.specs.Prelude.{◌≡◌, IfOk, IfErr, Some};
+ghost use Rattle.std.specs.Prelude.{◌≡◌, false, IfOk, IfErr, Some, codes};
 ghost use Rattle.serde_json.specs.View.{view};
 ghost use Rattle.reply_requests.specs.declared.commands.Command.TheVariants as command;
-ghost use Rattle.reply_requests.specs.Asked.{line_said, number_asked, IsSheet, IsGame, IsRequestFor, IsRequestIn};
-ghost use Rattle.reply_requests.specs.Reasons.{IsBadFor, IsBadSheet, IsBadGame, IsBadLine, IsBadNumber, IsReason, IsRefusedForMemoryAlone};
+ghost use Rattle.reply_requests.specs.Asked.{line_said, number_asked, IsFlag, IsSheet, IsGame, IsRequestFor, IsRequestIn};
+ghost use Rattle.reply_requests.specs.Reasons.{IsBadFor, IsBadSheet, IsBadGame, IsBadLine, IsBadNumber, IsNoFlag, IsReason, IsRefusedForMemoryAlone};
 
 use crate::commands::Command;
 use crate::members::{flag_in, name_in, number_in, other_key, text_in, texts_in};
@@ -25,21 +25,24 @@ pub enum Request<'a> {
     },
     /// To explain the verdict on a game, or the event on a line if one is named. Unless `likely` says so, no likely repair is looked for. If `lead`
     /// says so, it is also asked, where there is no likely repair, which bonus or penalty would explain the numbers, and who is ahead by the right ones.
+    /// If `draft` says so, the text is that of a draft, and the sheet that it makes is explained.
     Explain {
         game: &'a [u8],
         line: Option<u32>,
         likely: bool,
         lead: bool,
+        draft: bool,
     },
     /// To audit the sheet of a game, and to write the corrected record if `corrected` says so and it stands.
     Audit {
         game: &'a [u8],
         corrected: bool,
     },
-    /// To show the board of a game, before a line if one is named.
+    /// To show the board of a game, before a line if one is named. If `draft` says so, the text is that of a draft.
     Board {
         game: &'a [u8],
         line: Option<u32>,
+        draft: bool,
     },
     /// To find the best `number` plays on the board of a game, before a line if one is named; by a rack, or by the one that the line
     /// shows.
@@ -64,17 +67,21 @@ pub enum Request<'a> {
         game: &'a [u8],
         likely: bool,
     },
-    /// To find what repairs a record, at most `number` repairs, and to write the repaired sheet if `repaired` says so and one repair is to be chosen.
+    /// To find what repairs a record, at most `number` repairs, and to write the repaired sheet if `repaired` says so and one repair is to be chosen. If
+    /// `draft` says so, the text is that of a draft.
     Repair {
         game: &'a [u8],
         number: Option<u32>,
         repaired: bool,
+        draft: bool,
     },
-    /// To compare two sheets of one game, and to write the merged record if `merged` says so and one is ahead of all others.
+    /// To compare two sheets of one game, and to write the merged record if `merged` says so and one is ahead of all others. If `draft` says so, the texts
+    /// are those of drafts.
     Compare {
         first: &'a [u8],
         second: &'a [u8],
         merged: bool,
+        draft: bool,
     },
     /// To write a sheet with notes, each with at most `number` best plays.
     Annotate {
@@ -131,6 +138,14 @@ fn line_in<'a>(object: &'a Value) -> Result<Option<u32>, Refusal<'a>>
     number_in(object, "line", 0, u32::MAX)
 }
 
+/// Whether the text is that of a draft.
+fn is_draft<'a>(object: &'a Value) -> Result<bool, Refusal<'a>>
+    ensures flag { IfOk result (IsFlag (codes "draft") false (view object.now)) }
+    ensures reason { IfErr result (IsNoFlag (codes "draft") (view object.now)) }
+{
+    flag_in(object, "draft", false)
+}
+
 /// A request to judge a game.
 fn judge_in<'a>(object: &'a Value) -> Result<Request<'a>, Refusal<'a>>
     ensures says { IfOk result (IsRequestFor command.Judge (view object.now)) }
@@ -153,6 +168,7 @@ fn explain_in<'a>(object: &'a Value) -> Result<Request<'a>, Refusal<'a>>
         line: line_in(object)?,
         likely: flag_in(object, "likely", true)?,
         lead: false,
+        draft: is_draft(object)?,
     })
 }
 
@@ -175,6 +191,7 @@ fn board_in<'a>(object: &'a Value) -> Result<Request<'a>, Refusal<'a>>
     Ok(Request::Board {
         game: game_in(object, Command::Board)?,
         line: line_in(object)?,
+        draft: is_draft(object)?,
     })
 }
 
@@ -238,6 +255,7 @@ fn repair_in<'a>(object: &'a Value) -> Result<Request<'a>, Refusal<'a>>
         game: game_in(object, Command::Repair)?,
         number: number_asked(object)?,
         repaired: flag_in(object, "repaired", false)?,
+        draft: is_draft(object)?,
     })
 }
 
@@ -250,6 +268,7 @@ fn compare_in<'a>(object: &'a Value) -> Result<Request<'a>, Refusal<'a>>
         first: sheet_in(object, Command::Compare, "first")?,
         second: sheet_in(object, Command::Compare, "second")?,
         merged: flag_in(object, "merged", false)?,
+        draft: is_draft(object)?,
     })
 }
 

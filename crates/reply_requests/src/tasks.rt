@@ -17,6 +17,7 @@ pub enum Task<'a> {
         line: Option<u32>,
         likely: bool,
         lead: bool,
+        draft: bool,
     },
     /// [`Request::Audit`].
     Audit {
@@ -36,6 +37,7 @@ pub enum Task<'a> {
     Repair {
         number: Option<u32>,
         repaired: bool,
+        draft: bool,
     },
     /// [`Request::Annotate`].
     Annotate {
@@ -56,11 +58,17 @@ impl<'a> Task<'a> {
     {
         match self {
             Task::Judge { settle, best } => Request::Judge { game, settle, best },
-            Task::Explain { line, likely, lead } => Request::Explain {
+            Task::Explain {
+                line,
+                likely,
+                lead,
+                draft,
+            } => Request::Explain {
                 game,
                 line,
                 likely,
                 lead,
+                draft,
             },
             Task::Audit { corrected } => Request::Audit { game, corrected },
             Task::Top { line, rack, number } => Request::Top {
@@ -70,10 +78,15 @@ impl<'a> Task<'a> {
                 number,
             },
             Task::Page { likely } => Request::Page { game, likely },
-            Task::Repair { number, repaired } => Request::Repair {
+            Task::Repair {
+                number,
+                repaired,
+                draft,
+            } => Request::Repair {
                 game,
                 number,
                 repaired,
+                draft,
             },
             Task::Annotate { number } => Request::Annotate { game, number },
             Task::Fill { filled } => Request::Fill {

@@ -3,6 +3,7 @@ use Rattle.std.specs.Prelude.{◌≡◌, ◌&&◌, ℕ, Bool, true, false, List,
 use Rattle.json.specs.Json.{Json}
 use Rattle.json_trees.specs.Texts.{json_line}
 use Rattle.gcg_read.specs.declared.faults.ReadFault.{ReadFault}
+use Rattle.gcg_drafts.specs.declared.missing.Missing.{Missing}
 use Rattle.gcg_unread.specs.declared.lines.UnreadLine.{UnreadLine}
 use Rattle.gcg_unread.specs.Lines.{unread_of}
 use Rattle.engine_stages.specs.declared.decisions.Decision.{Decision}
@@ -124,6 +125,7 @@ IsAnnotatedText sheet text = (is_some text ≡ has_sheet sheet.case.read) × IfS
 
 abbrev pub bad_sheet_of : BadSheet → Json
 bad_sheet_of (bad.NoRecord fault) = bad_record_object fault
+bad_sheet_of (bad.NoDraft fault) = draft.bad_object fault
 bad_sheet_of (bad.NoEvent unread) = no_game_object unread.items
 
 abbrev pub compared_of : SheetsFound → Json
@@ -137,14 +139,14 @@ IsComparedText (sheets.Both both) text = (is_some text ≡ (both.merged && has_m
 IsComparedText (sheets.FirstBad why) text = text ≡ None
 IsComparedText (sheets.SecondBad why) text = text ≡ None
 
--- ---- what repairs a record
+-- ---- what repairs a record, or a draft whose lines lack these numbers
 
-abbrev pub repairs_in : Entry → RepairAnswer → List UnreadLine → Json
-repairs_in entry answer unread = if has_event entry.finding then answer_object entry.record answer unread else no_game_object unread
+abbrev pub repairs_in : Entry → (lacks : List Missing) → RepairAnswer → List UnreadLine → Json
+repairs_in entry lacks answer unread = if has_event entry.finding then answer_object entry.record lacks answer unread else no_game_object unread
 
-abbrev pub repairs_of : Result Entry ReadFault → RepairAnswer → List UnreadLine → Json
-repairs_of (Ok entry) answer unread = repairs_in entry answer unread
-repairs_of (Err fault) answer unread = bad_object fault answer.of_line
+abbrev pub repairs_of : Result Entry ReadFault → (lacks : List Missing) → RepairAnswer → List UnreadLine → Json
+repairs_of (Ok entry) lacks answer unread = repairs_in entry lacks answer unread
+repairs_of (Err fault) lacks answer unread = bad_object fault answer.of_line
 
 -- the repaired sheet, exactly if it is kept
 abbrev pub IsRepairedOf : RepairedCase → Option (List ℕ) → Type 0
@@ -177,10 +179,11 @@ object_of (reply.Checked words) = Some (checked_object words)
 object_of (reply.Tidied d) = tidied_object d
 object_of (reply.Paged x) = paged_object x
 object_of (reply.Compared found) = Some (compared_of found)
-object_of (reply.Repaired x) = Some (repairs_of x.case.read x.answer x.unread.items)
+object_of (reply.Repaired x) = Some (repairs_of x.case.read x.lacks.items x.answer x.unread.items)
 object_of (reply.Annotated sheet) = annotated_object sheet
 object_of (reply.Filled sheet) = Some (filled_of sheet.found sheet.unread.items)
 object_of (reply.Next found) = Some (next_of found)
+object_of (reply.NoDraft fault) = Some (draft.bad_object fault)
 
 -- what the text is, if there is one; of that of a page, which people read, only that it is there
 abbrev pub IsText : Reply → Option (List ℕ) → Type 0
@@ -198,6 +201,7 @@ IsText (reply.Repaired x) text = IsRepairedOf x text
 IsText (reply.Annotated sheet) text = IsAnnotatedText sheet text
 IsText (reply.Filled sheet) text = text ≡ filled_text sheet.found sheet.kept
 IsText (reply.Next found) text = text ≡ None
+IsText (reply.NoDraft fault) text = text ≡ None
 
 -- ---- what a command writes
 

@@ -8,10 +8,12 @@ ghost use Rattle.reply_texts.specs.Objects.{bad_sheet_of, compared_of, IsCompare
 
 use crate::bodies::Body;
 use crate::cases::NO_GAME;
+use crate::drafted::fault_words;
 use crate::encodings::in_utf8;
 use compare_answers::ComparisonAnswer;
 use compare_json::comparison_tree;
 use compare_lines::{push_choice, push_comparison};
+use draft_json::bad_draft_tree;
 use engine_stages::bad_record_line;
 use gcg_write::write;
 use json_base::{bad_record_tree, no_game_tree};
@@ -62,6 +64,7 @@ fn bad_words(alloc: Global, bad: &BadSheet) -> Result<Printed, AllocError>
 {
     match bad {
         BadSheet::NoRecord(fault) => Ok(Printed::report(bad_record_line(alloc, fault)?)),
+        BadSheet::NoDraft(fault) => fault_words(alloc, fault),
         BadSheet::NoEvent(_) => Printed::of_bytes(alloc, NO_GAME),
     }
 }
@@ -93,6 +96,7 @@ fn bad_tree(alloc: Global, bad: &BadSheet) -> Result<Tree, AllocError>
 {
     match bad {
         BadSheet::NoRecord(fault) => bad_record_tree(alloc, *fault),
+        BadSheet::NoDraft(fault) => bad_draft_tree(alloc, fault),
         BadSheet::NoEvent(unread) => no_game_tree(alloc, unread.as_slice()),
     }
 }

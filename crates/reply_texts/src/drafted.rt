@@ -1,5 +1,5 @@
 //! What is written of a draft.
-ghost use Rattle.std.specs.Prelude.{◌≡◌, Some, IfOk};
+ghost use Rattle.std.specs.Prelude.{◌≡◌, Some, None, IfOk};
 ghost use Rattle.json_trees.specs.Trees.{view};
 ghost use Rattle.draft_json.specs.Fills.{fill_object};
 ghost use Rattle.reply_texts.specs.Bodies.{bytes_of, object_in, text_in};
@@ -18,7 +18,9 @@ use reply_answers::{FilledSheet, Printed};
 use std::alloc::{AllocError, Global};
 
 /// The first fault of a draft, in words.
-fn fault_words(alloc: Global, fault: &DraftFault) -> Result<Printed, AllocError> {
+pub fn fault_words(alloc: Global, fault: &DraftFault) -> Result<Printed, AllocError>
+    ensures { IfOk result (λ printed. printed.kept ≡ None) }
+{
     let mut reported = Vec::new(alloc);
     push_draft_fault(alloc, &mut reported, fault)?;
     Ok(Printed::report(reported))

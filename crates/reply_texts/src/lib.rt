@@ -5,6 +5,7 @@
 #![tactic(auto)]
 
 mod audits;
+mod boards;
 mod bodies;
 mod cases;
 mod compared;

@@ -4,6 +4,7 @@ ghost use Rattle.json_trees.specs.Texts.{json_line};
 ghost use Rattle.json_trees.specs.Trees.{view};
 ghost use Rattle.json_base.specs.Refusals.{checked_object, decision_object};
 ghost use Rattle.explain_case_json.specs.Cases.{case_object};
+ghost use Rattle.draft_json.specs.Faults.{bad_object};
 ghost use Rattle.reply_texts.specs.Bodies.{object_in, text_in};
 ghost use Rattle.reply_texts.specs.Objects.{boarded_of, is_done, judged_of, next_of, object_of, plays_of, ruled_of, tidied_object, tidied_text, IsInObject, IsShownAs, IsText};
 
@@ -15,6 +16,7 @@ use crate::made::{annotated_body, paged_body};
 use crate::repaired::repaired_body;
 use crate::ruled::ruled_of;
 use draft_answers::{DraftFault, DraftNext};
+use draft_json::bad_draft_tree;
 use engine_stages::{Decision, Verdict};
 use explain_case_json::case_tree;
 use game_answers::FoundPlays;
@@ -154,6 +156,14 @@ fn next_body(alloc: Global, found: &Result<DraftNext, DraftFault>) -> Result<Bod
     Ok(Body::Object(next_of(alloc, found)?))
 }
 
+/// The first fault of a text that is no draft, for a program.
+fn fault_body(alloc: Global, fault: &DraftFault) -> Result<Body, AllocError>
+    ensures has_object { IfOk result (λ body. object_in body ≡ Some (bad_object fault.now)) }
+    ensures has_text { IfOk result (λ body. text_in body ≡ None) }
+{
+    Ok(Body::Object(bad_draft_tree(alloc, fault)?))
+}
+
 /// A reply as an answer to a program.
 ///
 /// # Errors
@@ -178,6 +188,7 @@ pub fn as_object(alloc: Global, reply: &Reply) -> Result<Body, AllocError>
         Reply::Repaired(repaired) => repaired_body(alloc, repaired),
         Reply::Filled(sheet) => filled_body(alloc, sheet),
         Reply::Next(found) => next_body(alloc, found),
+        Reply::NoDraft(fault) => fault_body(alloc, fault),
     }
 }
 

@@ -9,6 +9,7 @@ use crate::bodies::Body;
 use crate::cases::{NO_GAME, has_no_event, is_with_event};
 use crate::encodings::in_utf8;
 use game_case::Entry;
+use gcg_drafts::Missing;
 use gcg_names::Encoding;
 use gcg_unread::UnreadLine;
 use json_base::no_game_tree;
@@ -27,7 +28,13 @@ const NOTHING: &[u8] = b"not written: there is nothing to repair\n";
 fn text_of(alloc: Global, repaired: &RepairedCase, kept: bool) -> Result<Vec<u8>, AllocError> {
     let case = &repaired.case;
     let mut reported = Vec::new(alloc);
-    push_repairs(alloc, &mut reported, case, &repaired.answer)?;
+    push_repairs(
+        alloc,
+        &mut reported,
+        case,
+        repaired.lacks.as_slice(),
+        &repaired.answer,
+    )?;
     if repaired.asked {
         push_choice(&mut reported, case, &repaired.answer, kept)?;
     }
@@ -70,17 +77,18 @@ pub fn repaired_words(alloc: Global, repaired: &RepairedCase) -> Result<Printed,
     Ok(Printed { report, kept })
 }
 
-/// What repairs a record, or that it has no event.
+/// What repairs a record, or a draft whose lines lack these numbers; or that it has no event.
 fn entry_tree(
     alloc: Global,
     entry: &Entry,
+    lacks: &[Missing],
     answer: &RepairAnswer,
     unread: &[UnreadLine],
 ) -> Result<Tree, AllocError>
-    ensures { IfOk result (λ tree. view tree ≡ repairs_in entry.now answer.now unread.now) }
+    ensures { IfOk result (λ tree. view tree ≡ repairs_in entry.now lacks.now answer.now unread.now) }
 {
     if is_with_event(&entry.finding) {
-        answer_tree(alloc, &entry.record, answer, unread)
+        answer_tree(alloc, &entry.record, lacks, answer, unread)
     } else {
         no_game_tree(alloc, unread)
     }
@@ -88,11 +96,12 @@ fn entry_tree(
 
 /// What repairs the record of a case, or its text if that is not a record.
 fn repaired_tree(alloc: Global, repaired: &RepairedCase) -> Result<Tree, AllocError>
-    ensures { IfOk result (λ tree. view tree ≡ repairs_of repaired.now.case.read repaired.now.answer repaired.now.unread.items) }
+    ensures { IfOk result (λ tree. view tree ≡ repairs_of repaired.now.case.read repaired.now.lacks.items repaired.now.answer repaired.now.unread.items) }
 {
+    let lacks = repaired.lacks.as_slice();
     let answer = &repaired.answer;
     match &repaired.case.read {
-        Ok(entry) => entry_tree(alloc, entry, answer, repaired.unread.as_slice()),
+        Ok(entry) => entry_tree(alloc, entry, lacks, answer, repaired.unread.as_slice()),
         Err(fault) => bad_tree(alloc, *fault, &answer.of_line),
     }
 }
@@ -100,7 +109,7 @@ fn repaired_tree(alloc: Global, repaired: &RepairedCase) -> Result<Tree, AllocEr
 /// What repairs the record of a case, for a program, with the repaired sheet if that is kept.
 pub fn repaired_body(alloc: Global, repaired: &RepairedCase) -> Result<Body, AllocError>
     ensures has_object { IfOk result (λ body. object_in body
-        ≡ Some (repairs_of repaired.now.case.read repaired.now.answer repaired.now.unread.items)) }
+        ≡ Some (repairs_of repaired.now.case.read repaired.now.lacks.items repaired.now.answer repaired.now.unread.items)) }
     ensures has_text { IfOk result (λ body. IsRepairedOf repaired.now (text_in body)) }
 {
     let object = repaired_tree(alloc, repaired)?;

@@ -3,8 +3,9 @@ ghost use Rattle.std.specs.Prelude.{IfOk};
 ghost use Rattle.reply_texts.specs.Words.{IsInWords};
 
 use crate::audits::audit_words;
+use crate::boards::board_words;
 use crate::compared::compared_words;
-use crate::drafted::{filled_words, next_words};
+use crate::drafted::{fault_words, filled_words, next_words};
 use crate::explained::explained_words;
 use crate::made::{annotated_words, paged_words};
 use crate::objects::in_object;
@@ -31,10 +32,10 @@ pub fn in_words(alloc: Global, reply: &Reply) -> Result<Printed, AllocError>
         Reply::Ruled(ruled) => ruled_words(alloc, ruled),
         Reply::Filled(sheet) => filled_words(alloc, sheet),
         Reply::Next(found) => next_words(alloc, found),
-        Reply::Judged(_)
-        | Reply::Boarded(_)
-        | Reply::Found(_)
-        | Reply::Checked(_)
-        | Reply::Tidied(_) => in_object(alloc, reply),
+        Reply::NoDraft(fault) => fault_words(alloc, fault),
+        Reply::Boarded(sheet) => board_words(alloc, sheet),
+        Reply::Judged(_) | Reply::Found(_) | Reply::Checked(_) | Reply::Tidied(_) => {
+            in_object(alloc, reply)
+        }
     }
 }

@@ -1,6 +1,6 @@
 use Rattle.lex_check.specs.Pairs.{list_in}
 use Rattle.sheet_audit.specs.Answers.{IsAuditAnswerOf}
-use Rattle.draft_answers.proofs.Reading.{means_read}
+use Rattle.draft_answers.proofs.ReadTexts.{means_read}
 use Rattle.draft_answers.proofs.filled.given_audit.Goals as goal
 
 pub returns : goal.returns

@@ -1,6 +1,6 @@
 use Rattle.std.proofs.Common.{◌≡◌, ◌<◌, ◌∙◌, length, refl, sym, arith}
 use Rattle.game_turns.proofs.PlaceLaws.{start_tally}
-use Rattle.repair_single.proofs.Corrected.{stands_first, went_through}
+use Rattle.repair_single.proofs.Corrections.{stands_first, went_through}
 use Rattle.repair_single.proofs.Trials.{begun, refused_by, went_by}
 use Rattle.repair_single.proofs.correcting.correct.Goals as goal
 

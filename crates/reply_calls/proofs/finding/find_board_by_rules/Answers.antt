@@ -10,15 +10,15 @@ pub returns-in-Ok-Ok : goal.returns-in-Ok-Ok
 returns-in-Ok-Ok g c =
     let arm = c.in-Ok-Ok in
     asks_rules outcomes (g.S.RulesSource.known c.args.rules.now) (g.S.RulesSource.text c.args.rules.now) (g.S.RulesSource.text c.read.new.self)
-    (game_source (g.G.Input.device c.args.sheet.now) (g.G.Input.device c.find_board.new.sheet) ∷ []) (λ x stated. IsBoardFound c.args.line stated x) arm.field-0 arm.stated c.find_board.result
+    (game_source (g.G.Input.device c.args.sheet.now) (g.G.Input.device c.find_board.new.sheet) ∷ []) (λ x stated. IsBoardFound c.args.line c.args.draft stated x) arm.field-0 arm.stated c.find_board.result
     arm.ensures arm.field-0-is c.find_board.ensures
-    (λ x texts v report is. (board_later c.args.line arm.stated x texts v report is).rules)
+    (λ x texts v report is. (board_later c.args.line c.args.draft arm.stated x texts v report is).rules)
 
 pub returns-in-Ok-Err : goal.returns-in-Ok-Err
 returns-in-Ok-Err g c =
     let arm = c.in-Ok-Err in
     asks_bad_rules outcomes (g.S.RulesSource.known c.args.rules.now) (g.S.RulesSource.text c.args.rules.now) (g.S.RulesSource.text c.read.new.self)
-    (game_source (g.G.Input.device c.args.sheet.now) (g.G.Input.device c.args.sheet.now) ∷ []) (λ x stated. IsBoardFound c.args.line stated x) arm.field-0 arm.decision (Err arm.decision)
+    (game_source (g.G.Input.device c.args.sheet.now) (g.G.Input.device c.args.sheet.now) ∷ []) (λ x stated. IsBoardFound c.args.line c.args.draft stated x) arm.field-0 arm.decision (Err arm.decision)
     arm.ensures arm.field-0-is (refl, tt) refl refl
 
 pub returns-in-Err : goal.returns-in-Err
@@ -26,4 +26,4 @@ returns-in-Err g c =
     let arm = c.in-Err in
     asks_unruled outcomes (g.S.RulesSource.known c.args.rules.now) (g.S.RulesSource.text c.args.rules.now) (g.S.RulesSource.text c.read.new.self)
     (game_source (g.G.Input.device c.args.sheet.now) (g.G.Input.device c.args.sheet.now) ∷ [])
-    (λ x. ReadsRulesBut (g.S.RulesSource.known c.args.rules.now) (λ stated. IsBoardFound c.args.line stated x)) arm.fault arm.ensures (refl, tt)
+    (λ x. ReadsRulesBut (g.S.RulesSource.known c.args.rules.now) (λ stated. IsBoardFound c.args.line c.args.draft stated x)) arm.fault arm.ensures (refl, tt)

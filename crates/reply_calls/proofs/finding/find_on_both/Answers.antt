@@ -12,5 +12,5 @@ returns-in-Ok g c =
     let list = list_in c.args.given.now.pair.now in
     let old = g.G.Input.device c.args.second.now in
     let new = g.G.Input.device c.find_on_second.new.second in
-    on_both (λ b. b.items) (g.G.Input.device c.args.first.now) (g.G.Input.device c.read_sheet.new.sheet) old new c.args.merged rules list c.in-Ok.text c.find_on_second.result c.in-Ok.ensures
-    (subst (λ t. Gives outcomes (game_source old new ∷ []) (IsFoundOnSecond c.args.merged rules list t) c.find_on_second.result) c.as_slice.ensures.value c.find_on_second.ensures)
+    on_both (λ b. b.items) (g.G.Input.device c.args.first.now) (g.G.Input.device c.read_sheet.new.sheet) old new c.args.merged c.args.draft rules list c.in-Ok.text c.find_on_second.result c.in-Ok.ensures
+    (subst (λ t. Gives outcomes (game_source old new ∷ []) (IsFoundOnSecond c.args.merged c.args.draft rules list t) c.find_on_second.result) c.as_slice.ensures.value c.find_on_second.ensures)

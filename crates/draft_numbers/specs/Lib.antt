@@ -1,0 +1,4 @@
+pub mod Numbers
+pub mod Having
+pub mod Texts
+pub mod Laws
