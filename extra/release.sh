@@ -3,8 +3,9 @@
 #
 # Writes FOLDER/referee-VERSION.tar.gz, with the program, its manual page, the completions for bash, zsh and fish, the client in Python, the web page,
 # README and what it links to, and SHA256SUMS, which has the sums of all of them; and beside it the sum of the archive. Without PROGRAM the program is first
-# proved and built by extra/prove.sh, and extra/edits.sh tries the edits that the gate leaves out; neither takes long if nothing has changed since it
-# last ran. PROGRAM is a program that was proved already, as the gate leaves it in crates/referee/out/referee.
+# proved and built from nothing by the toolchain's own `rt ci --anew`: it starts no extra/rt and takes no proof that an earlier run kept. It also tries the
+# edits that the gate tries, and extra/edits.sh tries the others. That takes some hours. PROGRAM is a program that was proved already, as the gate leaves it
+# in crates/referee/out/referee.
 set -eu
 if [ $# != 1 ] && [ $# != 2 ]; then
     echo "usage: extra/release.sh FOLDER [PROGRAM]" >&2
@@ -16,7 +17,7 @@ folder=$(realpath "$1")
 if [ $# = 2 ]; then
     program=$(realpath "$2")
 else
-    "$root/extra/prove.sh" >&2
+    (cd "$root" && rt ci --anew) >&2
     "$root/extra/edits.sh" >&2
     program=$root/crates/referee/out/referee
 fi
