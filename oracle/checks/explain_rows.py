@@ -254,6 +254,17 @@ TOTALS = [
         "WORD",
         ">A: DORWAAE 8E WORD +16 16\n"
         ">B: - +0 0\n"
+        ">A: - +0 16\n"
+        ">B: - +0 0\n"
+        ">A: - +0 0\n",
+        "illegal line 5: WrongTotal 16\n"
+        "line 5: >A: - +0 0\n"
+        "A had 16 and scores 0 on this line, which makes 16, but 0 is written.\n",
+    ),
+    (
+        "WORD",
+        ">A: DORWAAE 8E WORD +16 16\n"
+        ">B: - +0 0\n"
         ">A: (time) -5 16\n",
         "illegal line 3: WrongTotal 11\n"
         "line 3: >A: (time) -5 16\n"
@@ -549,7 +560,7 @@ RACKS = [
         ">B: ? - +0 0\n",
         "illegal line 2: TilesShort ?\n"
         "line 2: >B: ? - +0 0\n"
-        "The game has 2 of the tile ?, but by the lines below there would have to be 3: 0 on the board, 2 on A's rack and 1 on B's.\n"
+        "The game has 2 of the tile ?, but by what the lines up to this one show there would have to be 3: 0 on the board, 2 on A's rack and 1 on B's.\n"
         "  line 1 shows 2 on A's rack\n"
         "  line 2 shows 1 on B's rack\n",
     ),
@@ -561,7 +572,7 @@ RACKS = [
         ">B: Q - +0 0\n",
         "illegal line 4: TilesShort Q\n"
         "line 4: >B: Q - +0 0\n"
-        "The game has 1 of the tile Q, but by the lines below there would have to be 2: 1 on the board, 0 on A's rack and 1 on B's.\n"
+        "The game has 1 of the tile Q, but by what the lines up to this one show there would have to be 2: 1 on the board, 0 on A's rack and 1 on B's.\n"
         "  line 1 shows 1 on A's rack and plays 1\n"
         "  line 4 shows 1 on B's rack\n",
     ),
@@ -984,6 +995,30 @@ RECORDS = [
 
 # Racks and bags that are too small, and a player who is out. With 14 tiles the bag is empty from the start.
 LAST_RACKS = [
+    (
+        "WORD\nAT\nRA\nDT",
+        ">A: DORWAAE 8E WORD +16 16\n"
+        ">B: - +0 0\n"
+        ">A: AAET 9G AT +9 25\n",
+        "illegal line 3: RackTooBig\n"
+        "line 3: >A: AAET 9G AT +9 25\n"
+        "A has 3 tiles here, but by the lines below the rack would have to hold 4: AAET.\n"
+        "  line 1 shows AADEORW and plays DORW\n"
+        "  line 3 shows AAET and plays AT\n"
+        "AT\n"
+        "  9G A 1 x 2 = 2, double letter\n"
+        "  9H T 1\n"
+        "  sum 3\n"
+        "(R)A\n"
+        "  8G R 1, already on the board\n"
+        "  9G A 1 x 2 = 2, double letter\n"
+        "  sum 3\n"
+        "(D)T\n"
+        "  8H D 2, already on the board\n"
+        "  9H T 1\n"
+        "  sum 3\n"
+        "score of the play: 9\n",
+    ),
     (
         "WORD",
         ">A: 8E WORD +16 16\n"

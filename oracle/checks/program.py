@@ -18,8 +18,10 @@ from pathlib import Path
 from urllib.parse import unquote
 
 import web
+from comparison_texts import is_text_of
 from explain_rows import explain_rows
 from hints import beside
+from repair_rows import NOT_DEALT, OPEN, SHORT_OF
 
 AT_FILE = bytes.fromhex("47414431 05000000 04000000 01000000 74000000 c0000000 61000000 01010000 d4010000")
 AT_IT_FILE = bytes.fromhex(
@@ -704,7 +706,6 @@ def topped(run):
         return run.row(["top", "at", "at.gad", game, rack], status, out)
 
     by_at("nothing", "?A", 0, "8G At 2\n8H At 2\nH7 At 2\nH8 At 2\n")
-    by_at("nothing", "?a", 0, "8G At 2\n8H At 2\nH7 At 2\nH8 At 2\n")
     ten = "8G AT 4\n8H AT 4\nH7 AT 4\nH8 AT 4\n8G At 2\n8G aT 2\n8H At 2\n8H aT 2\nH7 At 2\nH7 aT 2\n"
     by_at("nothing", "AT?", 0, ten)
     by_at("nothing", "Q", 0, "none\n")
@@ -713,8 +714,10 @@ def topped(run):
     # Deals are not judged: three blanks are shown, of which there are two.
     by_at("blanks", "?A", 0, "8G At 2\n8H At 2\nH7 At 2\nH8 At 2\n")
     by_at("number", "AT", 3, "bad record line 1: Number\n")
-    for rack in ("", "A1", "a1", "AAAAAAAA"):
+    for rack in ("", "A1", "a1", "AAAAAAAA", "a", "?a", "AEInrst"):
         by_at("number", rack, 3, "bad rack\n")
+        run.row(["top", "--before", "1", "at", "at.gad", "nothing", rack], 3, "bad rack\n")
+        run.row(["top", "--json", "at", "at.gad", "nothing", rack], 3, refusal("bad rack"))
     run.row(["top", "nothing", "nothing.gad", "nothing", "A"], 0, "none\n")
     run.row(["top", "digit", "extra.gad", "number", "A"], 3, "bad word list line 2: BadLetter\n")
     run.row(["top", "at", "extra.gad", "number", "A"], 3, "bad lexicon: Extra A\n")
@@ -736,7 +739,7 @@ def topped_before(run):
     for number in ("12", "13", "100"):
         by_at(["--number", number, "nothing AT?"], 0, twelve)
     by_at(["--number", "10", "nothing ?A"], 0, "8G At 2\n8H At 2\nH7 At 2\nH8 At 2\n")
-    by_at(["--number", "10", "nothing ?a"], 0, "8G At 2\n8H At 2\nH7 At 2\nH8 At 2\n")
+    by_at(["--number", "10", "nothing ?a"], 3, "bad rack\n")
     by_at(["--before", "1", "shown-rack"], 0, four)
     by_at(["--before", "1", "--number", "2", "shown-rack"], 0, "8G AT 4\n8H AT 4\n")
     by_at(["--before", "1", "shown-rack Q"], 0, "none\n")
@@ -1049,9 +1052,11 @@ def archived_repairs(run):
     """`archive --repairs`: two more fields of each line, after that of the page."""
     run.row(["build", "word-at-ra", "word-at-ra.gad"], 0)
     Path(run.folder, "stands-twice").write_text(WORD + ">B: AT 9G AT +9 9\n" * 2)
+    Path(run.folder, "of-other").write_text("#player2 B\n" + WORD + ">A: AT 9G AT +9 9\n>A: - +0 16\n")
     rows = [  # a game, its line but for its name, its page, and its likely repair
         ("line", "legal unfinished - - 1 A 16 - - 0", "line%.html", ("-", "-")),
         ("stands-twice", "illegal - 3 NotYourTurn 3 A 16 B 9 -", "stands-twice%.html", ("line 3: it repeats the line before it and should not be there", "4 of 4")),
+        ("of-other", "illegal - 3 NotYourTurn 3 A 16 B - -", "of-other%.html", ("line 3: B's line, not A's", "6 of 6")),
         ("line-18", "illegal - 1 WrongScore_16 1 A 18 - - -", "line-18%.html", ("-", "-")),
         ("third", "bad_record - 3 ThirdPlayer - - - - - -", "-", ("-", "-")),
         ("nothing", "no_game - - - 0 - - - - 0", "-", ("-", "-")),
@@ -1364,7 +1369,7 @@ def served(run):
         ('{"do":"annotate","game":"","likely":true}', 'annotate has no \\"likely\\"'),
     ]:
         run.row(["serve", *pair], 0, f'{ready}{{"id":null,"status":64,"error":"{error}"}}\n', stdin=f"{line}\n")
-    # The letters of a rack may be lower case, as on the command line; no other character is a tile in either case.
+    # The letters of a rack may be lower case, but not on the command line; no other character is a tile in either case.
     plays = [{"place": "8G", "direction": "across", "text": "AT", "score": 4}]
     by_at = ["serve", "at", "at.gad"], 0
     for rack in ("AT?", "at?", "aT?"):
@@ -1777,6 +1782,9 @@ def through_sheet(run, at, eat):
         first = found["sheet_slips"][0]
         lines = "".join(line.replace(">: ", ">B: ") + "\n" for line in first["lines"])
         run.expect(f"the object of the slip of {sheet}has {first}", first["settled"] and lines in there)
+        told = subprocess.run([run.program, "archive", "--repairs", "--json", "all", "all.gad", "slipped"], cwd=run.folder, capture_output=True, check=False).stdout
+        wanted = {"change": slip, "numbers_right": f"{numbers} of {numbers}"}
+        run.expect(f"the slip of {sheet}in an archive: {told}", json.loads(told)["likely"] == wanted)
     Path(run.folder, "slipped").write_text(word + at.replace("+9 9", "+9 16") + eat + ">B: - +0 16\n")
     told = subprocess.run([run.program, "repair", "all", "all.gad", "slipped"], cwd=run.folder, capture_output=True, check=False).stdout.decode()
     one = "with only the numbers corrected it is a game\n  7 of 8 numbers right\n  line 2: sum 16, should be 9\n"
@@ -1854,6 +1862,65 @@ def bad_lines(run, at, eat):
     run.expect(f"the object of blanks as capitals: {one}", (one["slip"], one["replaces"], one["lines"], one["cost"]) == wanted)
 
 
+def left_open(run):
+    """`repair` of a game that nobody can have dealt although no search shows it, with a slip: what is not known is not said as known."""
+    Path(run.folder, "jx").write_text("JX\n")
+    run.row(["build", "jx", "jx.gad"], 0)
+    run.row(["judge", "--settle", "jx", "jx.gad", "-"], 2, "unsettled\n", stdin=NOT_DEALT)
+    verdicts = ["3: WrongScore 32", "9: WrongTotal 32", "9: NothingToWithdraw", "3: WrongTotal 32", "6: NotYourTurn"]
+    left = [("leaves", 2), ("leaves", 1), ("makes", 1), ("leaves", 0), ("", 1)]
+    ends = "not written: it is not known whether another change repairs it\n"
+    for (record, wanted), verdict, (helps, many) in zip(OPEN, verdicts, left):
+        Path(run.folder, "left-open").write_text(record)
+        begins = f"illegal line {verdict}\n{wanted}"
+        ran = subprocess.run([run.program, "repair", "--repaired", "out", "jx", "jx.gad", "left-open"], cwd=run.folder, capture_output=True, check=False)
+        told = ran.stdout.decode()
+        run.expect(f"what is left open of {record}told {told}", ran.returncode == 1 and told.startswith(begins) and (not many or told.endswith(ends)))
+        said = json.loads(subprocess.run([run.program, "repair", "--json", "jx", "jx.gad", "left-open"], cwd=run.folder, capture_output=True, check=False).stdout)
+        settled = [said["left"], said["numbers_alone_settled"], [it["settled"] for it in said["sheet_slips"]]]
+        run.expect(f"the object of what is left open of {record}has {settled}", settled == [many, False if helps == "leaves" else None, [] if helps else [False] * 2])
+    Path(run.folder, "left-open").write_text("> a note\n" + NOT_DEALT)
+    mark = "bad record line 1: NoColon\nline 1: > should not be there (no deal was found)\n  16 of 16 numbers right\n"
+    ends = "not written: it is not a record, and it is not known whether it is a game with the first repair\n"
+    run.row(["repair", "--repaired", "out", "jx", "jx.gad", "left-open"], 3, mark + ends, error=None)
+    Path(run.folder, "left-open").write_text(NOT_DEALT.replace("8G JX", "JX"))
+    place = "bad record line 3: Code\nline 3: the place is missing: 8G (or 8H, H7, H8) (no deal was found)\n  16 of 16 numbers right\n"
+    run.row(["repair", "jx", "jx.gad", "left-open"], 3, place, error=None)
+    Path(run.folder, "left-open").write_text(SHORT_OF)
+    told = subprocess.run([run.program, "repair", "--draft", "jx", "jx.gad", "left-open"], cwd=run.folder, capture_output=True, check=False).stdout.decode()
+    run.expect(f"a draft of what is left open: {told}", told == f"illegal line 3: WrongScore 32\n{OPEN[0][1]}")
+
+
+def choices_left_open(run):
+    """`compare` of such a game with sheets of which a deal is found, or not: no sentence says of a choice that is left open that no deal yields its racks."""
+    kept, ahead = ["compare", "--merged", "out", "jx", "jx.gad"], "legal unfinished\nA is ahead by 32\n"
+    open_one = "of 1 choice of the lines it is not known whether a deal yields the racks\n"
+    other, none = "not written: it is not known whether another choice is a game\n", "not written: no choice of the lines is known to be a game\n"
+    two, six, e = NOT_DEALT.replace("-1 ", "-2 "), NOT_DEALT.replace("B: -7 +0 0\n>A: -", "B: -6 +0 0\n>A: -"), NOT_DEALT.replace("B: Z", "B: E")
+    shown, turn = NOT_DEALT.replace("QZ", "EQ"), NOT_DEALT + ">B: - +0 0\n"
+    cut = ">A: QZ -1 +0 0\n>B: -7 +0 0\n>A: - +0 0\n>B: Q -7 +0 0\n>A: - +0 0\n>B: Z - +0 0\n"
+    for first, second, status, out, why in [
+        (two, NOT_DEALT, 1, f"line 1 | line 1: -2 +0 0 | -1 +0 0: the first; with the second no deal was found\n{open_one}{ahead}", other),
+        (NOT_DEALT, two, 1, f"line 1 | line 1: -1 +0 0 | -2 +0 0: the second; with the first no deal was found\n{open_one}{ahead}", other),
+        (e, NOT_DEALT, 1, f"line 8 | line 8: rack E | rack Z: the first; with the second, the sheet of B, no deal was found\n{open_one}{ahead}", other),
+        (NOT_DEALT, shown, 1, f"line 1 | line 1: rack QZ | rack EQ: the second; with the first, the sheet of A, no deal was found\n{open_one}{ahead}", other),
+        (NOT_DEALT, NOT_DEALT, 2, f"{open_one}none of 1 choice of the lines is known to be a game\n", none),
+        (NOT_DEALT, six, 2, f"line 6 | line 6: -7 +0 0 | -6 +0 0\n{open_one.replace('1 choice', '2 choices')}none of 2 choices of the lines is known to be a game\n", none),
+        # Of the lines that may be one too many, line 8 is one without which a deal is found.
+        (turn, turn, 1, "none of 1 choice of the lines is known to be a game\nthe record of both sheets goes furthest: line 9 | line 9 is refused: NotYourTurn\n"
+         f"the record of both sheets is a game with one more change: line 8: it should not be there\n{ahead}", "not written: it is not known whether another change makes a game\n"),
+        # If B draws the Z in place of the Q itself, it is known that there is no deal.
+        (cut.replace("-1 ", "-2 "), cut, 1, "line 1 | line 1: -2 +0 0 | -1 +0 0: the first; with the second no deal yields the racks\n"
+         "legal unfinished\nboth have the same total\n", "written: the merged record\n"),
+    ]:
+        Path(run.folder, "one").write_text(first)
+        Path(run.folder, "two").write_text(second)
+        run.row([*kept, "one", "two"], status, out + why)
+        text = subprocess.run([run.program, *kept, "one", "two"], cwd=run.folder, capture_output=True, check=False).stdout.decode()
+        told = json.loads(subprocess.run([run.program, "compare", "--json", "jx", "jx.gad", "one", "two"], cwd=run.folder, capture_output=True, check=False).stdout)
+        run.expect(f"the object of what {text} says: {told}", is_text_of(text, told, True))
+
+
 def numbers_alone(run, at):
     """`repair` of a sheet on which only a score is wrong, for which no change of the play makes up: the sheet is written with the right one."""
     Path(run.folder, "scored").write_text(WORD.replace("+16 16", "+18 18") + at)
@@ -1914,6 +1981,29 @@ def compared(run):
     either = refused.format("line 1 | line 1: 7E WORD +16 16 | 7F WORD +16 16") + f"first is a game with one more change: line 1: WORD at 8E, not at 7E\n{rival}{ahead}"
     Path(run.folder, "out").write_bytes(b"as it was")
     run.row([*told, "--merged", "out", "above", "aside"], 1, f"{either}not written: {rival}", wrote=b"as it was")
+    for sheets, names, words in [  # where the line that is changed has another number on the other sheet, it is said which sheet it is of
+        (("other", "noted left"), ("line 1 | line 2", "8D", "8C", "first"), "first sheet, line 1"),
+        (("noted other", "left"), ("line 2 | line 1", "8D", "8C", "first"), "first sheet, line 2"),
+        (("left", "noted other"), ("line 1 | line 2", "8C", "8D", "second"), "second sheet, line 2"),
+        (("noted left", "other"), ("line 2 | line 1", "8C", "8D", "second"), "second sheet, line 1"),
+        (("noted other", "noted left"), ("line 2 | line 2", "8D", "8C", "first"), "line 2"),
+    ]:
+        for name in ("other", "left"):
+            Path(run.folder, f"noted {name}").write_text("#note the first table\n" + Path(run.folder, name).read_text())
+        lines, one, two, taken = names
+        begins = f"{lines}: {one} WORD +16 16 | {two} WORD +16 16\nnone of 2 choices of the lines is known to be a game\nfirst goes furthest: {lines} is refused: MissesCentre\n"
+        run.row([*told, *sheets], 1, f"{begins}{taken} is a game with one more change: {words}: WORD at 8E, not at 8D\n{ahead}")
+    at = ">B: AT 9G AT +9 9\n"
+    run.row(["build", "word-at-ra", "word-at-ra.gad"], 0)
+    for sheet, refused, words, end in [  # a sheet and itself: what is refused, the words of the change, and what comes of it
+        (WORD + at + at, 3, "line 3: it repeats the line before it and should not be there", "A is ahead by 7\n"),
+        (WORD + ">A: AT 9G AT +9 25\n", 2, f"before line 2: the other player passes\n{rival.rstrip()}", "total of : none | none: the rules give 0\nA is ahead by 25\n"),
+        ("#player2 B\n" + WORD + ">A: AT 9G AT +9 9\n>A: - +0 16\n", 3, "line 3: B's line, not A's", "total of B: none | none: the rules give 9\nA is ahead by 7; by the first sheet A is ahead by 16; by the second sheet A is ahead by 16\n"),
+    ]:
+        Path(run.folder, "itself").write_text(sheet)
+        begins = f"none of 1 choice of the lines is known to be a game\nthe record of both sheets goes furthest: line {refused} | line {refused} is refused: NotYourTurn\n"
+        out = f"{begins}the record of both sheets is a game with one more change: {words}\nlegal unfinished\n{end}"
+        run.row(["compare", "word-at-ra", "word-at-ra.gad", "itself", "itself"], 1, out)
     sheets_of_two(run)
     for words, out in [(["digit", "word.gad", "line", "line"], "bad word list line 2: BadLetter\n"), (["at", "extra.gad", "line", "line"], "bad lexicon: Extra A\n")]:
         run.row(["compare", *words], 3, out)
@@ -2102,7 +2192,7 @@ def explained(run):
     centre = "illegal line 1: MissesCentre\nline 1: >A: DORWAAE 8D WORD +16 16\nThe first play of a game has to cover 8H, and this one does not.\n"
     spot = "The same letters score 16 at 8E across, 8F across, 8G across and 5 other places.\n"
     told("line-8d", 1, centre + spot + picture_of(1, True, (ROW_OF_WORD[0], " 8 = . .[' . . .]- . . . ' . . =")))
-    short = "The game has 2 of the tile ?, but by the lines below there would have to be 3: 0 on the board, 2 on A's rack and 1 on B's.\n"
+    short = "The game has 2 of the tile ?, but by what the lines up to this one show there would have to be 3: 0 on the board, 2 on A's rack and 1 on B's.\n"
     shown = "  line 1 shows 2 on A's rack\n  line 2 shows 1 on B's rack\n"
     told("blanks", 1, f"illegal line 2: TilesShort ?\nline 2: >B: ? - +0 0\n{short}{shown}" + picture_of(2, False))
     no_deal = "No deal of the tiles gives the players the racks that the lines up to this one show, though no single line shows too much.\n"
@@ -2446,6 +2536,9 @@ def hinted(run):
         ("a1", f"'1' in the rack is not a tile: {rack}"),
         ("\u00c4", f"'\u00c4' in the rack is not a tile: {rack}"),
         ("AAAAAAAA", "the rack has 8 tiles, and a rack has 1 to 7"),
+        ("aaaaaaaa", "the rack has 8 tiles, and a rack has 1 to 7"),
+        ("at?", "the tiles of a rack are capitals: perhaps AT? is meant"),
+        ("AEInrst", "the tiles of a rack are capitals: perhaps AEINRST is meant"),
     ]:
         run.row(["top", "at", "at.gad", "number", named], 3, "bad rack\n", error=f"referee: {told}")
         run.row(["top", "--before", "2", "at", "at.gad", "number", named], 3, "bad rack\n", error=f"referee: {told}")
@@ -2570,7 +2663,6 @@ def in_json(run):
     plays = ",".join(play % it for it in (("8G", "across", "At"), ("8H", "across", "At"), ("H7", "down", "At"), ("H8", "down", "At")))
     both = '{"verdict":"ok","line":null,"fault":null,"rack":"A?","plays":[%s]}\n'
     run.row([*top, *at, "nothing", "?A"], 0, both % plays)
-    run.row([*top, *at, "nothing", "a?"], 0, both % plays)
     run.row([*top, "--number", "1", *at, "nothing", "?A"], 0, both % (play % ("8G", "across", "At")))
     run.row([*top, *at, "nothing", "ZZ"], 0, '{"verdict":"ok","line":null,"fault":null,"rack":"ZZ","plays":[]}\n')
     run.row([*top, *at, "nothing", "A1"], 3, refusal("bad rack"))
@@ -2910,7 +3002,7 @@ def main():
     with tempfile.TemporaryDirectory() as folder:
         files(folder)
         run = Runner(os.path.abspath(sys.argv[1]), folder)
-        for part in (judged, settled, built_and_checked, converted, topped, topped_before, ruled, tidied, boarded, widest, from_standard_input, fielded, skipped, words_ruled, archived, served, audited, filled, on_drafts, repairs_listed, compared, explained, explain_rows, paged, annotated, kept_bests, counted_points, on_a_terminal, in_json, lines_unread, put_out, overwritten, hinted, misordered, broken, helped, misused):
+        for part in (judged, settled, built_and_checked, converted, topped, topped_before, ruled, tidied, boarded, widest, from_standard_input, fielded, skipped, words_ruled, archived, served, audited, filled, on_drafts, repairs_listed, left_open, compared, choices_left_open, explained, explain_rows, paged, annotated, kept_bests, counted_points, on_a_terminal, in_json, lines_unread, put_out, overwritten, hinted, misordered, broken, helped, misused):
             part(run)
         if sys.argv[2:] == ["large"]:
             converted_large(run)

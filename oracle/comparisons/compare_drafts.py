@@ -16,7 +16,7 @@ from comparing import Differences, compare_cases, without_amount
 from comparisons import compared_objects
 from dealing import Dealer, likely, line
 from deals import event_of
-from draft_repairs import draft_repair_text
+from draft_repairs import draft_repair_text, draft_repairs
 from drafts import DraftFault, fill, filled_text, lines_of, next_lines, read, stand_in
 from fuzz import TEXT_DAMAGES, damaged
 from lexicons import GAD2, build, convert
@@ -190,7 +190,8 @@ class Drafts(Differences):
         """Compares what `repair` says of a draft with the second judge, by which a number that is missing counts nowhere."""
         ran = self.run("repair", "--draft", *self.by, "words", "lexicon", "draft")
         verdict, _, told = ran.stdout.decode("latin-1").partition("\n")
-        if ran.returncode != 1 or "no deal was found" in told:
+        found, alone, _ = draft_repairs(sheet, lacks, listed, rules)
+        if ran.returncode != 1 or not all(it.is_known for it in [*found, *([alone] if alone else [])]):
             return
         self.seen["repaired " + ("whole" if not any(lacks) else "with a number missing")] += 1
         wanted = draft_repair_text(sheet, lacks, listed, rules, nicks, numbers)

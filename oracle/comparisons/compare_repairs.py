@@ -4,8 +4,10 @@ The worked records are those of `repair_rows`: the first repair has to be the kn
 many games that were dealt for real have one slip of the pen, and the second judge lists the repairs: those that are told have to be the same, with the
 same costs, as far as both tell them. Each third game has two slips, and the pairs of changes are compared. Of as many short games with few tiles
 all that is told has to be the same, in the same order, and so has the object of `repair --json` of each record of which all is known. Of a record with more
-changes than are tried it has to be told which are not. A record is passed over if the rule of completion, which is all that the second judge has, leaves
-open whether a deal fits with some change, or if the program may end its search for pairs before it comes to one (`pairs.py`).
+changes than are tried it has to be told which are not. A record is passed over if it is not known of some change what a search for its deal finds: the rule of
+completion leaves it open, and the record names too many kinds for the second judge to try all deals and all cuts (`settlings.py`); or if the program may end
+its search for pairs before it comes to one (`pairs.py`). The words of `compare` for one more change, of a worked record and itself, have to be those of its
+first repair, and the line of `archive --repairs` has to say the likely one.
 """
 import json
 import random
@@ -22,10 +24,12 @@ from game_pages import board_read, pictured
 from lexicons import build
 from pairs import pairs
 from repair_objects import chain_wanted, repaired_objects
-from repair_rows import CHAINS, LINES, NONE, PHONIES, ROWS, TWO, puts
+from repair_rows import CHAINS, LINES, NONE, OPEN, PHONIES, ROWS, TWO, puts
 from repair_figures import SLIPS, STYLES, TURNS, some_sheet, with_two_slips
-from repair_texts import amount_repair, chain_text, choice, likely_repair, likely_sheet, pairs_text, repair_text, sheet_text, suggested_text, with_numbers
-from repairs import NOTHING, AnyHands, Front, repairs
+from repair_texts import (
+    amount_repair, chain_text, choice, likely_repair, likely_sheet, numbered, pairs_text, repair_text, sheet_text, suggested_text, what_changes, with_numbers,
+)
+from repairs import NOTHING, AnyHands, Front, most_left, repairs, repairs_below
 from rules import ENGLISH
 from rules_texts import text_of
 from sheet_slips import of_text
@@ -33,6 +37,7 @@ from sheet_slips import of_text
 MOST = 100
 TWO_CHANGES = "with two changes:\n"
 CHAINED = re.compile("(?m)^with [0-9]+ changes, one after the other:\n")
+EXTRA = " is a game with one more change: "
 UNTRIED = re.compile("(?m)^([0-9]+) of ([0-9]+) changes were not tried, since the record is long: those before line ([0-9]+)$")
 
 
@@ -67,6 +72,10 @@ def rows(differences):
         good = told and (told[0], told[1] + behind, told[2]) == (cost, line, there) and status == 1
         differences.expect(good, record, f"told {status} {told} for {(cost, line, there)}")
         texts(differences, rules, set(words.split()), record, "worked")
+        extra_change(differences, rules, set(words.split()), record)
+        if rules == ENGLISH:
+            found, (two, _) = repairs(events_of(record), set(words.split())), pairs(events_of(record), set(words.split()))
+            likely(differences, events_of(record), set(words.split()), record, found, two)
     for rules, words, record in NONE:
         status, answer = told_by(differences, rules, set(words.split()), record)
         differences.expect(not answer["repairs"], record, f"told {first(answer)}")
@@ -89,6 +98,11 @@ def rows(differences):
         status, answer = told_by(differences, rules, set(words.split()), record)
         many = 1 + len(answer["repairs"][0]["others"])
         differences.expect(many == wanted, record, f"{many} on the first line for {wanted}")
+    for record, wanted in OPEN:
+        told_by(differences, ENGLISH, {"JX"}, record)
+        said = singles_told(differences)
+        differences.expect(said == wanted, "left open", record, said, "by hand", wanted)
+        texts(differences, ENGLISH, {"JX"}, record, "left open", False)
 
 
 def all_told(answer):
@@ -123,18 +137,38 @@ def names_in(text):
     return [nick if f">{nick}:" in text else "the other player" for nick in "AB"]
 
 
-def texts(differences, rules, listed, text, name):
-    """Compares all that is printed of an illegal record after the verdict line, if the second judge knows of every change whether a deal fits."""
-    events = events_of(text)
-    if not all(it.dealt for it in repairs(events, listed, rules)):
-        return
-    nicks = nicks_in(text)
+def singles_told(differences):
+    """What is printed of an illegal record after the verdict line, but for what it says of two changes and of several."""
     done = differences.run("repair", "--rules", "rules", "words", "lexicon", "game")
-    told = CHAINED.split(done.stdout.decode().split("\n", 1)[1].split(TWO_CHANGES)[0])[0]
-    wanted = repair_text(events, listed, rules, nicks, game=text.encode())
-    told = "".join(line + "\n" for line in told.split("\n")[:-1] if not line.endswith("but no deal was found"))
+    return CHAINED.split(done.stdout.decode().split("\n", 1)[1].split(TWO_CHANGES)[0])[0]
+
+
+def extra_change(differences, rules, listed, text):
+    """Compares the words in which `compare` tells of one more change, of a record and itself: those of the first change by the list that repairs it. If it
+    needs none but right numbers, none is told."""
+    events, nicks = events_of(text), nicks_in(text)
+    front = Front(rules, events, listed)
+    found = repairs_below(front, inf) if most_left(front) == inf else []
+    if not all(it.is_known for it in found):
+        return
+    first = next((it for it in found if it.dealt), None)
+    said = differences.run("compare", "--rules", "rules", "words", "lexicon", "game", "game").stdout.decode()
+    told = [line.split(EXTRA)[1] for line in said.split("\n") if EXTRA in line]
+    wanted = [what_changes(first.change, first.right(), numbered(events), nicks)] if first else []
+    differences.seen["extra changes of `compare`"] += bool(wanted)
+    differences.expect(told == wanted, text, f"compared {said}", f"second judge {wanted}")
+
+
+def texts(differences, rules, listed, text, name, is_whole=True):
+    """Compares all that is printed of an illegal record after the verdict line, if the second judge knows of every change what a search for its deal finds; and
+    the object of the whole."""
+    events = events_of(text)
+    if not all(it.is_known for it in repairs(events, listed, rules)):
+        return
+    told, wanted = singles_told(differences), repair_text(events, listed, rules, nicks_in(text), game=text.encode())
     differences.expect(told == wanted, name, text, told, "second judge", wanted)
-    whole_object(differences, name, text)
+    if is_whole:
+        whole_object(differences, name, text)
 
 
 def whole_object(differences, name, text):
@@ -150,7 +184,7 @@ def whole_object(differences, name, text):
 def known_pairs(differences, rules, listed, events):
     """The pairs of changes of a record; None if the second judge leaves open whether a deal fits with some change."""
     found, known = pairs(events, listed, rules)
-    if known and all(it.dealt for it in repairs(events, listed, rules)):
+    if known and all(it.is_known for it in repairs(events, listed, rules)):
         differences.seen["records with pairs"] += bool(found)
         return found
     differences.seen["deals left open"] += 1
@@ -173,6 +207,7 @@ def likely(differences, events, listed, text, found, two):
     differences.expect(other == (suggested_text("Or", amount, events, names) if amount else ""), text, f"explained {other}", amount)
     if not sheet:
         likely_object(differences, text, told)
+    likely_line(differences, text, wanted)
     likely_page(differences, text, told, repair if repair and is_of_play(repair.change, events) else None)
 
 
@@ -181,6 +216,14 @@ def likely_object(differences, text, told):
     found = json.loads(differences.run("explain", "--json", "words", "lexicon", "game").stdout)["likely"]
     first = json.loads(differences.run("repair", "--json", "words", "lexicon", "game").stdout)["repairs"][:1]
     differences.expect(found == (first[0] if told else None), text, f"explained {found}", f"repairs {first}")
+
+
+def likely_line(differences, text, wanted):
+    """Compares the likely repair in the line of `archive --repairs` with what the second judge says of it in an explanation."""
+    said = json.loads(differences.run("archive", "--json", "--repairs", "words", "lexicon", "game").stdout)["likely"]
+    change, right = (wanted.removeprefix("Likely: ").split("\n")[:2] if wanted else (None, None))
+    told = {"change": change, "numbers_right": right and right.strip().rsplit(" ", 2)[0]}
+    differences.expect(said == told, text, f"archived {said}", f"second judge {told}")
 
 
 def is_of_play(change, events):
@@ -246,7 +289,7 @@ def is_known(events, listed, rules, found):
     front = Front(rules, events, listed)
     nothing = front.with_change(NOTHING)
     settled = front.dealt(nothing) if nothing else None
-    return all(it.dealt for it in found) and (settled is None or settled.dealt)
+    return all(it.is_known for it in found) and (settled is None or settled.is_known)
 
 
 def case(differences, number):
@@ -356,7 +399,7 @@ def main():
             small(differences)
 
     differences, cases = compared(Differences, compare)
-    differences.end(1 + 2 * cases + cases // 6 + sum(map(len, (ROWS, NONE, TWO, PHONIES, CHAINS, LINES))), "records")
+    differences.end(1 + 2 * cases + cases // 6 + sum(map(len, (ROWS, NONE, TWO, PHONIES, CHAINS, LINES, OPEN))), "records")
 
 
 if __name__ == "__main__":

@@ -92,7 +92,8 @@ def some_request(game):
         return {"do": do, "game": text, "line": at}, ["board", "--json", *before]
     if do == "top":
         rack = random.choice(["AB1", "ABCDEFGH", "é"]) if likely(0.1) else in_either_case(random_rack(TILES)) if at is None or likely(0.5) else None
-        return {"do": do, "game": text, "line": at, "rack": rack, "number": number}, ["top", "--json", *before, *([] if number is None else ["--number", str(number)]), *([] if rack is None else [rack])]
+        named = [] if rack is None else [rack.upper()]  # on the command line a rack is in capitals
+        return {"do": do, "game": text, "line": at, "rack": rack, "number": number}, ["top", "--json", *before, *([] if number is None else ["--number", str(number)]), *named]
     if do == "check":
         return {"do": do}, ["check", "--json"]
     if do == "word":

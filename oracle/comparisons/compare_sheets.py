@@ -6,7 +6,7 @@ with the fewest racks that are not from the player's own sheet.
 A merged record has to be a game by the second judge, if that does not leave open whether a deal fits, of lines that are on the sheets; where no choice of
 them makes a game, one event of it may be on neither. What is said of last totals and of who won has to follow
 from it. The object of `compare --json` has to say the same: its lines are made by `comparison_texts.py` and compared with those of the program. Where the
-second judge knows the object (`comparisons.py`), it has to be that one.
+second judge knows the object (`comparisons.py`), it has to be that one. Four pairs of sheets come first of which a choice is left open.
 The last line says how often the merged record is the true one, and how often it was repaired.
 """
 import json
@@ -23,6 +23,7 @@ from dealing import in_order
 from deals import decide, events_of
 from lexicons import build
 from repair_figures import SLIPS, TURNS, some_game
+from repair_rows import NOT_DEALT
 from rules import ENGLISH
 
 TILES = list(ENGLISH.tiles.elements())
@@ -211,8 +212,19 @@ def case(differences, number):
     differences.seen["repaired and true"] += repaired and true
 
 
+def left_open(differences):
+    """Sheets of a game that nobody can have dealt although no search shows it, and of one that was dealt: the second judge knows what is left open."""
+    known = differences.seen["whole objects"]
+    for first, second in [(NOT_DEALT.replace(*other), NOT_DEALT) for other in (("-1 ", "-2 "), ("B: Z", "B: E"))]:
+        for sheets in ((first, second), (second, first)):
+            done, _ = given(differences, {"JX"}, *map(events_of, sheets))
+            differences.expect("no deal yields the racks" not in done.stdout.decode(), *sheets, done.stdout.decode())
+    differences.expect(differences.seen["whole objects"] == known + 4, "left open", "the second judge does not know each object")
+
+
 def main():
     def compare(differences, cases):
+        left_open(differences)
         for number in range(cases):
             case(differences, number)
 

@@ -42,9 +42,12 @@ class Tops:
         self.game.write_text(text)
         number = random.choice([MANY, 1, 9, 11, 40, 100])
         asked = [] if number == MANY else ["--number", str(number)]
-        words = [self.program, "top", *asked, self.words, self.lexicon, self.game, in_either_case(rack)]
+        named = in_either_case(rack)
+        words = [self.program, "top", *asked, self.words, self.lexicon, self.game, named]
         told = subprocess.run(words, capture_output=True, check=False).stdout.decode()
         plays, expected = best_plays(board, rack, listed, number=number)
+        expected = expected if named == rack else "bad rack\n"
+        self.kinds["a rack in small letters"] += named != rack
         self.kinds["none" if not plays else "fewer" if len(plays) < number else "as many" if len(plays) == number else "more"] += 1
         self.kinds["with a blank"] += "?" in rack
         self.kinds["a tie at the end"] += len(plays) > number and plays[number - 1].score == plays[number].score

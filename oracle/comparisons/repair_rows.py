@@ -12,6 +12,7 @@ from dealing import Dealer, spoiled
 from deals import bound, course, events_of
 from games import go_through
 from pairs import pairs
+from repair_texts import repair_text
 from repairs import Front, lines, repairs
 from rules import ENGLISH
 
@@ -87,6 +88,33 @@ LINES = [
     (ENGLISH, "ZA", ZA + ">B: AABCDDZ -AZ +0 0\n>A: - +0 22\n", 26),
 ]
 
+# A game that nobody can have dealt, although no search shows it: A has Q and Z and throws one tile, so one of them stays with A, but B has both, one after
+# the other. B throws the Q and draws seven other tiles before it has the Z, so whichever kinds are counted together, no place has more of them than it may.
+NOT_DEALT = ">A: QZ -1 +0 0\n>B: -7 +0 0\n>A: 8G JX +32 32\n>B: Q -7 +0 0\n>A: - +0 32\n>B: -7 +0 0\n>A: - +0 32\n>B: Z - +0 0\n"
+SHORT_OF = NOT_DEALT.replace("+32 32", "+16 16").replace("+0 32", "+0 16")
+OPEN_ALONE = "with only the numbers corrected it may be a game: no deal was found\n"
+
+# Such a game with one slip: the record, and all that is said of it. No change is known to make it a game, though some may.
+OPEN = [
+    # The J or the X is a blank.
+    (SHORT_OF, OPEN_ALONE + "  15 of 16 numbers right\n  line 3: score 16, should be 32\n"
+     "none of 871 single changes is known to leave fewer errors\nwith 2 more changes every event stands, but no deal was found\n"),
+    # The last line is one too many.
+    (NOT_DEALT + ">A: - +0 33\n", OPEN_ALONE + "  17 of 18 numbers right\n  line 9: sum 33, should be 32\n"
+     "none of 939 single changes is known to leave fewer errors\nwith 1 more change every event stands, but no deal was found\n"),
+    (NOT_DEALT + ">B: -- +0 0\n", "none of 876 single changes is known to make it a game\nwith 1 more change every event stands, but no deal was found\n"),
+    # No change makes up for a total that is 5 too high, since no play was challenged.
+    (NOT_DEALT.replace("+32 32", "+32 37").replace("+0 32", "+0 37"), OPEN_ALONE + "  15 of 16 numbers right\n  line 3: sum 37, should be 32\n"
+     "none of 871 single changes leaves fewer errors\n"),
+    # The > of a line is missing.
+    (NOT_DEALT.replace(">A: - +0 32", "A: - +0 32", 1), "line 5: > is missing (no deal was found)\n  16 of 16 numbers right\n"
+     "before line 6: A exchanges 1 tile (or with 2, 3, 4, 5, 6, 7)\n  14 of 14 numbers right\n"
+     "line 4: it should not be there\n  12 of 12 numbers right\n"
+     "all lines from line 6 on have the name of the other player (no deal was found)\n  12 of 14 numbers right\n"
+     "  line 6: sum 0, should be 32\n  line 7: sum 32, should be 0\n"
+     "with 1 more change every event stands, but no deal was found\n"),
+]
+
 
 def first(rules, words, record):
     """The first repair of a record: its cost, its line, and what it puts there, with right numbers; None if there is none."""
@@ -126,7 +154,11 @@ def rows():
         assert told == tuple(wanted), f"{record}told {told} for {wanted}"
     for rules, words, record in PHONIES:
         assert first(rules, words, record) and first_pair(rules, words, record) is None, record
+    for record, wanted in OPEN:
+        told = repair_text(events_of(record), {"JX"}, game=record.encode())
+        assert told == wanted, f"{record}told {told} for {wanted}"
     many = f"{len(ROWS)} records with a repair, {len(NONE)} without, {len(TWO)} with two slips, {len(PHONIES)} with phonies, {len(LINES)} with lines"
+    many += f", {len(OPEN)} left open"
     print(many, flush=True)
 
 

@@ -156,8 +156,8 @@ def place_before(lines, before):
 
 
 def tiles_named(rack):
-    """The tiles of a rack that is named, whose letters may be small; none if it is not a rack."""
-    return rack.upper() if re.fullmatch("[A-Za-z?]{1,7}", rack) else None
+    """The tiles of a rack that is named; none if it is not a rack."""
+    return rack if re.fullmatch("[A-Z?]{1,7}", rack) else None
 
 
 def topped(words, lexicon, game, rack=None, text=None, number=MANY, before=None):

@@ -60,7 +60,7 @@ def last_of(own, events, listed, rules, below):
     found = repairs_below(Front(rules, events, listed), inf)
     first = next((it for it in found if it.dealt), None)
     good = first and first.cost < below and is_of_sheet(own, events, first)
-    return first if good else None, all(it.dealt for it in found)
+    return first if good else None, all(it.is_known for it in found)
 
 
 @remembered

@@ -2,7 +2,7 @@
 from math import inf
 
 from play_changes import Finder
-from repair_texts import LINES, differing, numbered, what_changes
+from repair_texts import LINES, differing, many_open, numbered, things, what_changes
 from repairs import NOTHING, WORDS_OF_SLIPS, AnyHands, Front, Repair, avoids_word, has_likely, lines, most_left, repairs_below
 from rules import ENGLISH
 
@@ -99,4 +99,6 @@ def draft_repair_text(events, lacks, listed, rules=ENGLISH, nicks="AB", lines_of
         but = ", but for letters that merely trade places" if alone and alone.unlisted > WORDS_OF_SLIPS else ""
         helps = ("leaves fewer errors", "is known to leave fewer errors") if alone else ("makes it a game", "is known to make it a game")
         text += f"none of {tried} single changes {helps[not known]}{but}\n"
+    if left := many_open(found):
+        text += f"with {things(left, 'more change')} every event stands, but no deal was found\n"
     return text

@@ -158,8 +158,8 @@ def total_facts(scene, right):
     said = [fact("WrongTotal", player=event.player + 1, had=scene.game.totals[event.player], score=event.score, right=right, written=event.total)]
     if event.score == short:
         return [*said, fact("LeavesOutOwn")]
-    left = [line for line, before in zip(scene.lines, scene.past) if before.player == event.player and before.score == short]
-    return [*said, fact("LeavesOut", line=left[-1], score=short)] if left else said
+    line, score = told.latest_of(scene)
+    return [*said, fact("LeavesOut", line=line, score=short)] if score == short else said
 
 
 def none_before(scene, name):

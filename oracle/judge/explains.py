@@ -241,16 +241,20 @@ def wrong_score(scene, right):
     return f"{front.get(event.kind, 'An exchange scores')} {written}"
 
 
+def latest_of(scene):
+    """The line and the score of the player's latest event: no total after it holds the score. None where there is no such event."""
+    own = [(line, before.score) for line, before in zip(scene.lines, scene.past) if before.player == scene.event.player]
+    return own[-1] if own else (None, None)
+
+
 def wrong_total(scene, right):
     event = scene.event
     told = f"{scene.nick} had {scene.game.totals[event.player]} and scores {event.score} on this line, which makes {right}, but {event.total} is written.\n"
     short = right - event.total
     if event.score == short:
         return told + "The written total leaves out the score of this line.\n"
-    for line, before in reversed(list(zip(scene.lines, scene.past))):
-        if before.player == event.player and before.score == short:
-            return told + f"The written total leaves out line {line}, which scores {short}.\n"
-    return told
+    line, score = latest_of(scene)
+    return told + (f"The written total leaves out line {line}, which scores {short}.\n" if score == short else "")
 
 
 def nothing_to_withdraw(scene):
@@ -416,7 +420,7 @@ def tiles_short(places, now, lines, nicks, kind, rules):
     laid = sum(it.used[kind] for it in places[:now] if it.stands)
     first, second = (must_have(places, player, now)[kind] for player in (0, 1))
     told = [
-        f"The game has {rules.tiles[kind]} of the tile {kind}, but by the lines below there would have to be {laid + first + second}: "
+        f"The game has {rules.tiles[kind]} of the tile {kind}, but by what the lines up to this one show there would have to be {laid + first + second}: "
         f"{laid} on the board, {first} on {nicks[0]}'s rack and {second} on {nicks[1]}'s."
     ]
     for k, it in enumerate(places[: now + 1]):

@@ -65,7 +65,9 @@ def rack_clause(rack):
             return f"'{tile}' in the rack is not a tile: tiles are A to Z, and ? for a blank"
     if not rack:
         return "the rack has no tile, and a rack has 1 to 7"
-    return f"the rack has {len(rack)} tiles, and a rack has 1 to 7"
+    if len(rack) > 7:
+        return f"the rack has {len(rack)} tiles, and a rack has 1 to 7"
+    return f"the tiles of a rack are capitals: perhaps {rack.upper()} is meant"
 
 
 def clause_of(words, line, folder, stdin):

@@ -110,7 +110,7 @@ def pairs(events, listed, rules=ENGLISH):
     for head in [] if singles and is_likely(singles[0]) else heads(events, listed, rules):
         front = Front(rules, head.made, listed)
         seconds = [it for it in repairs_below(front, inf) if head.change.weight + it.cost < least]
-        known = known and all(it.dealt for it in seconds) and not (seconds and len(front.taken) == len(front.events))
+        known = known and all(it.is_known for it in seconds) and not (seconds and len(front.taken) == len(front.events))
         found += [Pair(head, it) for it in seconds if it.dealt and is_of_sheet(head, it)]
     seen, told = {it.record() for it in singles}, []
     for pair in sorted(found, key=lambda it: it.cost):

@@ -10,7 +10,7 @@ from chains import TWO_NUMBERS, chain
 from deals import settled_ways
 from objects import head, refused, unread_in, verdict_of
 from pairs import pairs
-from repair_texts import choice, pair_lines, position, with_change, with_numbers
+from repair_texts import choice, many_open, pair_lines, position, with_change, with_numbers
 from repairs import WRONG_NUMBER, AnyHands, Front, has_likely, lines, many_tried, most_left, repairs, repairs_below
 from rules import ENGLISH
 from sheet_slips import has_blank, is_play, is_written, of_bad_text, of_text
@@ -218,9 +218,9 @@ def chain_wanted(events, listed, rules, game):
     singles, (two, known), alone = repairs(events, listed, rules), pairs(events, listed, rules), with_numbers(events, listed, rules)
     sheets = of_text(game, listed, rules)
     least = min((it.cost for it in [*[it for it in singles if it.dealt], *two, *sheets, *([alone] if alone else [])]), default=inf)
-    if not known or not all(it.dealt for it in singles):
+    if not known or not all(it.is_known for it in singles):
         return None, False
-    if least <= TWO_NUMBERS:
+    if least <= TWO_NUMBERS or not all(it.dealt for it in singles):
         return None, True
     found, known = chain(events, listed, rules)
     return found if found and found.cost < least else None, known
@@ -259,16 +259,16 @@ def faulty_keys(game, events, listed, rules, nicks, number):
     whether a deal fits."""
     found, alone, sheets = repairs(events, listed, rules), with_numbers(events, listed, rules), of_text(game, listed, rules)
     (two, pairs_known), (several, chain_known) = pairs(events, listed, rules), chain_wanted(events, listed, rules, game)
-    known = pairs_known and chain_known and all(it.dealt for it in [*found, *sheets, *([alone] if alone else [])])
+    known = pairs_known and chain_known and all(it.is_known for it in [*found, *sheets, *([alone] if alone else [])])
     if not known or len(found) > MOST_ALIKE * number:
         return None
     own = list(zip(lines_of(game), events))
     keys = {
         "numbers_alone": evidence(alone, own) if alone else None,
-        "repairs": [repair_object(line, own, nicks) for line in lines(found, events)[:number]],
+        "repairs": [repair_object(line, own, nicks) for line in lines([it for it in found if it.dealt], events)[:number]],
         "pairs": [pair_object(line, own, nicks) for line in pair_lines(two)[:number]],
         "chain": chain_object(several, own, nicks) if several else None,
-        "left": 0,
+        "left": many_open(found),
         "tried": many_changes(events, listed, rules),
         "untried": 0,
         "numbers_alone_settled": alone.dealt if alone else None,
@@ -292,7 +292,7 @@ def bad_repaired(game, told, listed, rules):
     found = of_bad_text(game, listed, rules)
     slips = [line_object(it) for it in found]
     kept = found[0].sheet.repair.right() if is_written(found, WRONG_NUMBER) else None
-    return Repaired(told | {"line_slips": slips}, all(it.sheet.dealt for it in found), kept)
+    return Repaired(told | {"line_slips": slips}, all(it.sheet.is_known for it in found), kept)
 
 
 def line_object(found):

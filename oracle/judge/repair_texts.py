@@ -2,6 +2,7 @@
 from collections import Counter
 from dataclasses import replace
 
+from answers import lines_of
 from changes import ordered
 from repairs import NOTHING, WORDS_OF_SLIPS, WRONG_NUMBER, Front, lines, many_tried, repairs
 from rules import ENGLISH
@@ -286,7 +287,8 @@ def suggested_text(words, repair, events, nicks="AB"):
 
 def repair_text(events, listed, rules=ENGLISH, nicks="AB", number=LINES, game=None):
     """All lines behind the verdict line of an illegal record, but for those about two changes. Slips of the whole sheet are those of its text."""
-    found, own, alone, told = repairs(events, listed, rules), numbered(events), with_numbers(events, listed, rules), []
+    found, alone, told = repairs(events, listed, rules), with_numbers(events, listed, rules), []
+    own = list(zip(lines_of(game), events)) if game else numbered(events)
     if alone and alone.unlisted > WORDS_OF_SLIPS:
         told.append((-1, 0, f"{alone.unlisted} words of the plays are not in the list: perhaps the game was played with another word list\n"))
     if alone:
@@ -306,7 +308,14 @@ def repair_text(events, listed, rules=ENGLISH, nicks="AB", number=LINES, game=No
         but = ", but for letters that merely trade places" if alone and alone.unlisted > WORDS_OF_SLIPS else ""
         helps = ("leaves fewer errors", "is known to leave fewer errors") if alone else ("makes it a game", "is known to make it a game")
         text += f"none of {many_tried(events, listed, rules)} single changes {helps[not known]}{but}\n"
+    if left := many_open(found):
+        text += f"with {things(left, 'more change')} every event stands, but no deal was found\n"
     return text
+
+
+def many_open(found):
+    """How many changes are left open."""
+    return sum(it.times for it in found if not it.dealt)
 
 
 def bad_record_text(game, listed, rules=ENGLISH, number=LINES):

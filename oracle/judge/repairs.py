@@ -15,6 +15,7 @@ from deals import Place, course, judged_rack, kinds_of, settle
 from games import Event, Game, step
 from play_changes import Finder
 from rules import ENGLISH
+from settlings import decided
 
 WRONG_NUMBER, UNLISTED_WORD = 5, 3
 WORDS_OF_SLIPS = 3  # if more words are not in the list, they are phonies, or of another list
@@ -58,13 +59,21 @@ class Taken:
 @dataclass
 class Repair:
     """A change, the record with it and with right numbers, how many numbers of the sheet are wrong then, how many words stand unlisted, and
-    whether the rule of completion finds a deal; if not, no bound is exceeded, and only a search can say."""
+    whether a deal is found; if not, no bound is exceeded. `is_open` says that a search has to leave it open, and not only this judge: there is no deal, and
+    no cut. `times` is how many changes make the same record."""
 
     change: Change
     taken: list
     wrong: int
     unlisted: int
     dealt: bool = None
+    is_open: bool = False
+    times: int = 1
+
+    @property
+    def is_known(self):
+        """Whether it is known what a search finds."""
+        return self.dealt or self.is_open
 
     @property
     def cost(self):
@@ -224,18 +233,21 @@ class Front:
 
     def dealt(self, repair):
         """The repair with what deals say of it, or None if they refuse it."""
-        said = settle(course(repair.right(), self.listed, self.rules), self.rules.tiles)
-        return None if said and said != "unsettled" else replace(repair, dealt=said is None)
+        places = course(repair.right(), self.listed, self.rules)
+        said = settle(places, self.rules.tiles)
+        if said != "unsettled":
+            return replace(repair, dealt=True) if said is None else None
+        found = decided(places, self.rules.tiles)
+        return None if found == "cut" else replace(repair, dealt=found == "deal", is_open=found == "open")
 
 
 def ranked(candidates):
     """Each resulting record once, by its cheapest change and of these the first, in the order of the rank."""
-    seen = set()
+    made = {}
     for repair in sorted(candidates, key=lambda it: it.cost):
-        record = repair.record()
-        if record not in seen:
-            seen.add(record)
-            yield repair
+        made.setdefault(repair.record(), []).append(repair)
+    for first, *others in made.values():
+        yield replace(first, times=1 + len(others))
 
 
 def remembered(find):

@@ -154,7 +154,9 @@ def objects_for(words, lexicon, do, said, text):
     if do == "board":
         return [boarded_object(game, line, text)]
     if do == "top":
-        return [topped_object(words, lexicon, game, said.get("rack"), text, said.get("number", 10), line)]
+        rack = said.get("rack")  # unlike on the command line, its letters may be small
+        capitals = rack.upper() if rack and rack.isascii() else rack
+        return [topped_object(words, lexicon, game, capitals, text, said.get("number", 10), line)]
     if do == "word":
         return [ruled(words_of(words), said["words"])]
     if do == "check":

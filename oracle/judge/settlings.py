@@ -2,10 +2,17 @@
 
 The places of a cut are not looked at. What its kinds are to show is found anew: the kinds count as one, all others as another,
 and how many tiles of the one can be on each rack is followed from place to place. Where there is no way left, there is no deal.
+
+Of a record that names few kinds it is also said whether it has a deal at all: the kinds that it does not name count as one, and all racks that there can be
+are followed from place to place. Where it has no deal although no kinds of it show that as a cut, a search for a deal or a cut has to leave it open.
 """
 from collections import Counter
+from itertools import combinations
+from math import prod
 
 from deals import fits
+
+MOST_KINDS, MOST_RACKS = 6, 150
 
 
 def letters(text):
@@ -98,3 +105,85 @@ def is_right(told, places, tiles):
         kinds, _, rows = what
         return 0 < len(rows) <= len(places) and shows_none(places[: len(rows)], tiles, kinds)
     return word == "unknown"
+
+
+# ---- whether there is a deal at all
+
+
+def kinds_named(places):
+    """The kinds that a record names: on racks, in plays, and as exchanged tiles."""
+    return sorted({kind for place in places for tiles in (place.need or (), place.used, place.throws(), place.board) for kind in tiles})
+
+
+def parts(tiles, number):
+    """All ways to take a number of tiles, where `tiles` says how many there are of each kind."""
+    if not tiles:
+        return [()] if number == 0 else []
+    first, *others = tiles
+    return [(taken, *rest) for taken in range(min(first, number) + 1) for rest in parts(others, number - taken)]
+
+
+def plus(one, other):
+    return tuple(a + b for a, b in zip(one, other))
+
+
+def minus(one, other):
+    return tuple(a - b for a, b in zip(one, other))
+
+
+def racks_before(place, racks, counted):
+    """Whether these racks have what is known at a place."""
+    if place.holder is None:
+        return True
+    has, need = racks[place.holder], counted(place.need)
+    return has == need if place.event.kind == "rack" else min(minus(has, need)) >= 0
+
+
+def racks_after(place, before, racks, tiles, counted, sizes):
+    """The racks that there can be before the next place, of these sizes."""
+    player, event = place.event.player, place.event
+    if event.kind == "withdraw":
+        yield plus(racks[player], counted(before.used))
+        return
+    rest = minus(racks[player], counted(place.used + place.throws()))
+    if not place.stands and event.kind not in ("exchange", "unknown"):
+        yield rest
+        return
+    bag = minus(minus(minus(tiles, counted(place.board)), racks[0]), racks[1])
+    for thrown in parts(rest, event.size) if event.kind == "unknown" else [(0,) * len(rest)]:
+        kept = minus(rest, thrown)
+        for drawn in parts(bag, sizes[player] - sum(kept)):
+            yield plus(kept, drawn)
+
+
+def has_deal(places, tiles, kinds):
+    """Whether some deal fits a record that names only these kinds."""
+
+    def counted(some):
+        named = [Counter(some)[kind] for kind in kinds]
+        return (*named, Counter(some).total() - sum(named))
+
+    whole, sizes = counted(tiles), places[0].racks
+    reached = {(first, second) for first in parts(whole, sizes[0]) for second in parts(minus(whole, first), sizes[1])}
+    for now, place in enumerate(places):
+        reached = {racks for racks in reached if racks_before(place, racks, counted)}
+        if now + 1 == len(places):
+            break
+        before, player, after = places[now - 1] if now else None, place.event.player, set()
+        for racks in reached:
+            for later in racks_after(place, before, racks, whole, counted, places[now + 1].racks):
+                after.add((later, racks[1]) if player == 0 else (racks[0], later))
+        reached = after
+    return bool(reached)
+
+
+def decided(places, tiles):
+    """What there is to find of a record: `deal`, `cut` or `open`, if it has no deal and no kinds that it names show that; None if it names so many that this is
+    not tried."""
+    kinds = kinds_named(places)
+    if len(kinds) > MOST_KINDS or prod(min(tiles[kind], 7) + 1 for kind in kinds) > MOST_RACKS:
+        return None
+    if has_deal(places, tiles, kinds):
+        return "deal"
+    chosen = (some for many in range(len(kinds) + 1) for some in combinations(kinds, many))
+    return "cut" if any(shows_none(places, tiles, set(some)) for some in chosen) else "open"

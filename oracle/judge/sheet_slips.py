@@ -41,6 +41,10 @@ class SheetRepair:
     def dealt(self):
         return self.repair.dealt
 
+    @property
+    def is_known(self):
+        return self.repair.is_known
+
 
 def on_board(square):
     return all(0 <= it < SIDE for it in square)

@@ -72,7 +72,8 @@ def readings(scene):
     found = []
     for at, letter in enumerate(scene.event.word):
         for kind in KINDS if letter != "." else "":
-            answer = with_letter(scene, at, letter.lower() if kind == "?" else kind)
+            read = letter.lower() if kind == "?" else kind
+            answer = with_letter(scene, at, read) if read != letter else None
             if answer and not used(answer[0]) - Counter(scene.event.rack) and all(word in scene.listed for word in answer[1].words):
                 found.append(answer[1])
     return ([it for it in found if it.score == scene.event.score] or found)[:NAMED]

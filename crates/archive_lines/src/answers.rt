@@ -5,7 +5,7 @@ ghost use Rattle.archive_lines.specs.Answers.{answer_of, ending_in};
 use game_case::Finding;
 
 /// What a line answers about a game.
-#[derive(Clone, Copy, Debug, PartialEq, Eq)]
+#[derive(Clone, Copy)]
 pub enum Answer {
     /// The game is legal.
     Legal,
@@ -53,7 +53,7 @@ impl Answer {
 }
 
 /// Whether a legal game has ended.
-#[derive(Clone, Copy, Debug, PartialEq, Eq)]
+#[derive(Clone, Copy)]
 pub enum Ending {
     /// It has.
     Complete,
@@ -76,7 +76,7 @@ impl Ending {
 }
 
 /// Why a game is unread.
-#[derive(Clone, Copy, Debug, PartialEq, Eq)]
+#[derive(Clone, Copy)]
 pub enum Unread {
     /// The file could not be opened.
     CannotOpen,

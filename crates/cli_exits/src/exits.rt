@@ -6,7 +6,7 @@ use io_watch::Reason;
 use std::fmt;
 
 /// How the program ends.
-#[derive(Clone, Copy, Debug, PartialEq, Eq)]
+#[derive(Clone, Copy)]
 pub enum Exit {
     /// The game is legal, or what was requested is done, help included.
     Fine,
@@ -52,7 +52,7 @@ impl Exit {
 }
 
 /// Why the program could not finish. Its text is what standard error gets.
-#[derive(Clone, Copy, Debug, PartialEq, Eq)]
+#[derive(Clone, Copy)]
 pub enum Trouble<'a> {
     /// A read of the input of this name failed.
     ReadFailed(&'a str, Reason),

@@ -7,7 +7,7 @@ use std::fmt;
 use text_lines::without_mark;
 
 /// What is known of the inputs of a call.
-#[derive(Clone, Copy, Debug)]
+#[derive(Clone, Copy)]
 pub struct Known<'a> {
     /// The name of the word list in messages.
     pub words: &'a str,
@@ -33,10 +33,10 @@ impl Known<'_> {
 }
 
 /// What may help with a fault, besides its line. Its text is a clause without a full stop.
-#[derive(Clone, Copy, Debug)]
+#[derive(Clone, Copy)]
 pub enum Hint<'a> {
     /// The text is not a rack.
-    Rack(RackHint),
+    Rack(RackHint<'a>),
     /// The command line names no rack, and the line shows none.
     NoRack,
     /// The rules text leaves items out.
@@ -56,7 +56,7 @@ impl<'a> Hint<'a> {
     pub fn of(line: &[u8], known: &Known<'a>) -> Option<Hint<'a>> {
         if line.starts_with(b"bad rack") {
             return match known.rack {
-                Some(rack) => Some(Hint::Rack(RackHint::of(rack)?)),
+                Some(rack) => Some(Hint::Rack(RackHint::of(rack))),
                 None => Some(Hint::NoRack),
             };
         }

@@ -5,7 +5,7 @@ use std::fmt;
 use text_lines::{Lines, next_field, without_mark};
 
 /// An item of a rules text.
-#[derive(Clone, Copy, Debug, PartialEq, Eq)]
+#[derive(Clone, Copy, PartialEq, Eq)]
 pub enum Item {
     /// The tiles of a kind.
     Tile(char),

@@ -8,7 +8,7 @@ use text_lines::{Lines, next_field, numeral, without_mark};
 const MAX_DIGITS: usize = 3;
 
 /// A number of a rules text that is outside its limits.
-#[derive(Clone, Copy, Debug, PartialEq, Eq)]
+#[derive(Clone, Copy)]
 pub enum Limit {
     /// There are this many tiles in all.
     Tiles(u32),

@@ -6,32 +6,34 @@ use std::fmt;
 const MOST_TILES: usize = 7;
 
 /// Why a text is not a rack.
-#[derive(Clone, Copy, Debug, PartialEq, Eq)]
-pub enum RackHint {
+#[derive(Clone, Copy)]
+pub enum RackHint<'a> {
     /// It has no tile.
     Empty,
     /// It has a character that is not a tile: the first one.
     NoTile(char),
     /// It has this many tiles.
     TooMany(usize),
+    /// It is this text, which would be a rack in capitals.
+    NotInCapitals(&'a str),
 }
 
-impl RackHint {
-    /// What is wrong with a text as a rack.
-    pub fn of(rack: &str) -> Option<RackHint> {
+impl<'a> RackHint<'a> {
+    /// What is wrong with a text that is not a rack.
+    pub fn of(rack: &'a str) -> RackHint<'a> {
         let mut tiles: usize = 0;
         for tile in rack.chars() {
-            if !is_tile(tile) {
-                return Some(RackHint::NoTile(tile));
+            if !is_tile(tile.to_ascii_uppercase()) {
+                return RackHint::NoTile(tile);
             }
             tiles = tiles.saturating_add(1);
         }
         if tiles == 0 {
-            Some(RackHint::Empty)
+            RackHint::Empty
         } else if tiles > MOST_TILES {
-            Some(RackHint::TooMany(tiles))
+            RackHint::TooMany(tiles)
         } else {
-            None
+            RackHint::NotInCapitals(rack)
         }
     }
 }
@@ -41,7 +43,7 @@ fn is_tile(tile: char) -> bool {
     tile.is_ascii_uppercase() || tile == '?'
 }
 
-impl fmt::Display for RackHint {
+impl fmt::Display for RackHint<'_> {
     fn fmt<W: fmt::Write>(&self, f: &mut fmt::Formatter<W>) -> fmt::Result {
         match self {
             RackHint::Empty => write!(f, "the rack has no tile, and a rack has 1 to {MOST_TILES}"),
@@ -57,6 +59,19 @@ impl fmt::Display for RackHint {
                     "the rack has {tiles} tiles, and a rack has 1 to {MOST_TILES}"
                 )
             }
+            RackHint::NotInCapitals(rack) => {
+                write!(f, "the tiles of a rack are capitals: perhaps ")?;
+                write_capitals(rack, f)?;
+                write!(f, " is meant")
+            }
         }
     }
+}
+
+/// Writes a text, its letters as capitals.
+fn write_capitals<W: fmt::Write>(text: &str, f: &mut fmt::Formatter<W>) -> fmt::Result {
+    for letter in text.chars() {
+        write!(f, "{}", letter.to_ascii_uppercase())?;
+    }
+    Ok(())
 }

@@ -109,13 +109,10 @@ fn answer_one<'a, R: Runtime + AllocGlobal>(
 }
 
 /// Whether the rack that a request names is not one.
-fn names_no_rack<R: Runtime + AllocGlobal>(
-    rt: &R,
-    asked: Asked<'_>,
-) -> Result<bool, Trouble<'static>> {
+fn names_no_rack(asked: Asked<'_>) -> bool {
     match asked {
-        Asked::OfOne(Task::Top { rack, .. }) => Ok(!is_rack(rt, rack)?),
-        _ => Ok(false),
+        Asked::OfOne(Task::Top { rack, .. }) => !is_rack(rack),
+        _ => false,
     }
 }
 
@@ -127,7 +124,7 @@ fn answer_in<'a, R: Runtime + AllocGlobal>(
     form: Form,
 ) -> Result<Exit, Trouble<'a>> {
     let GameRequest { asked, out } = request;
-    if names_no_rack(rt, asked)? {
+    if names_no_rack(asked) {
         return refuse_rack(rt, files);
     }
     match asked {

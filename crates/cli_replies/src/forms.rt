@@ -15,7 +15,7 @@ use std::alloc::{AllocError, Global};
 use std::io::Read;
 
 /// The form in which a reply is written.
-#[derive(Clone, Copy, Debug, PartialEq, Eq)]
+#[derive(Clone, Copy)]
 pub enum Form {
     /// In words, for people.
     Words,

@@ -31,9 +31,11 @@ impl<'r, 'a, R: Runtime + AllocGlobal> KeptFile<'r, 'a, R> {
 }
 
 impl<R: Runtime + AllocGlobal> Outlet for KeptFile<'_, '_, R> {
-    ghost use Rattle.std.specs.Prelude.{⊤};
+    ghost use Rattle.std.specs.Prelude.{⊤, IsTrue, is_some};
 
     ghost holds = { λ file text. ⊤ };
+
+    ghost has_failed = { λ file. IsTrue (is_some file.trouble) };
 
     fn keep(&mut self, text: &[u8]) -> Result<(), KeepFailed> {
         let Some(name) = self.name else {

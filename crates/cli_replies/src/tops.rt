@@ -5,20 +5,13 @@ use cli_exits::{Exit, Trouble};
 use cli_files::{open_inputs, open_sheet, refuse_in_json};
 use engine_stages::{Decision, InputFault};
 use gcg_read::read_rack;
-use reply_racks::rack_in_capitals;
 use std::rt::Runtime;
 
-/// Whether what is named is a rack, if something is. Its letters may be lower case.
-pub(crate) fn is_rack<R: Runtime + AllocGlobal>(
-    rt: &R,
-    rack: Option<&str>,
-) -> Result<bool, Trouble<'static>> {
-    let Ok(tiles) = rack_in_capitals(rt.alloc(), rack) else {
-        return Err(Trouble::NoMemory);
-    };
-    match tiles {
-        None => Ok(true),
-        Some(tiles) => Ok(read_rack(&tiles).is_some()),
+/// Whether what is named is a rack, if something is.
+pub(crate) fn is_rack(rack: Option<&str>) -> bool {
+    match rack {
+        None => true,
+        Some(rack) => read_rack(rack.as_bytes()).is_some(),
     }
 }
 

@@ -18,7 +18,6 @@ use engine_stages::{RulesInput, RulesSource, RunFault, Verdict};
 use game_report::MOST_PLAYS;
 use io_devices::{FromRead, FromWrite, Input, Output};
 use io_watch::Front;
-use reply_racks::rack_in_capitals;
 use std::alloc::Global;
 use std::io::{self, Read};
 use std::rt::Runtime;
@@ -211,7 +210,7 @@ pub fn judge<'a, R: Runtime + AllocGlobal>(
 }
 
 /// Writes the best plays on a board of a record, by the English rules or those of a text, to standard output: on the board before `line`, by `rack`, and
-/// at most `number` of them, as far as these are given. The files are opened before the rack is looked at, whose letters may be lower case.
+/// at most `number` of them, as far as these are given. The files are opened before the rack is looked at.
 pub fn top<'a, R: Runtime + AllocGlobal>(
     rt: &R,
     files: GameFiles<'a>,
@@ -219,14 +218,11 @@ pub fn top<'a, R: Runtime + AllocGlobal>(
     rack: Option<&str>,
     number: Option<u32>,
 ) -> Result<Verdict, Trouble<'a>> {
-    let Ok(rack) = rack_in_capitals(rt.alloc(), rack) else {
-        return Err(Trouble::NoMemory);
-    };
-    let rack = rack.as_ref().map(|tiles| tiles.as_slice());
+    let rack = rack.map(|tiles| tiles.as_bytes());
     answer_game(rt, files, top_task(line, rack, number))
 }
 
-/// The request for best plays, by a rack in capitals.
+/// The request for best plays.
 fn top_task<'t>(line: Option<u32>, rack: Option<&'t [u8]>, number: Option<u32>) -> GameTask<'t> {
     match (rack, number, line) {
         (Some(rack), None, None) => GameTask::TopAtTheEnd(rack),

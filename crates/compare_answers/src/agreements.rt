@@ -6,7 +6,7 @@ use compare_alignments::{Pair, count_items};
 use compare_choices::{Best, Find, Sheets, have_other_racks};
 
 /// Whether two sheets agree.
-#[derive(Clone, Copy, Debug, PartialEq, Eq)]
+#[derive(Clone, Copy)]
 pub enum Agreement {
     /// They agree in everything, every number of both is right, and the game is legal.
     Agree,

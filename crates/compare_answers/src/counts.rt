@@ -4,7 +4,7 @@ ghost use Rattle.compare_answers.specs.Counts.{AreCounts};
 use compare_alignments::{MOST_ITEMS, Pair, count_choices, count_items, count_racks};
 
 /// How many differences two sheets have.
-#[derive(Clone, Copy, Debug, PartialEq, Eq)]
+#[derive(Clone, Copy)]
 pub struct ItemCounts {
     /// How many pairs of lines differ.
     pub items: usize,

@@ -8,7 +8,7 @@ use compare_repaired::RepairedChoices;
 use gcg_read::Event;
 
 /// How the game ends, by both sheets and by what is right.
-#[derive(Clone, Copy, Debug, PartialEq, Eq)]
+#[derive(Clone, Copy)]
 pub struct GameEnd {
     /// Whether the last racks are in.
     pub complete: bool,

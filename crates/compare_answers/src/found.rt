@@ -12,7 +12,7 @@ use repair_rewrites::can_be_written;
 use std::alloc::{AllocError, Global};
 
 /// Why there is no merged record.
-#[derive(Clone, Copy, Debug, PartialEq, Eq)]
+#[derive(Clone, Copy)]
 pub enum WhyNotMerged {
     /// Another choice of the lines makes a game that costs as little.
     OtherChoice,

@@ -12,7 +12,7 @@ use game_turns::RuleFault;
 use std::alloc::{AllocError, Global};
 
 /// What comes of the best choice with the other line of an item.
-#[derive(Clone, Copy, Debug, PartialEq, Eq)]
+#[derive(Clone, Copy)]
 pub enum OtherLine {
     /// The item is not varied: only the first twelve are.
     NotVaried,
@@ -41,7 +41,7 @@ pub enum OtherLine {
 }
 
 /// What the rules say of the lines of a pair.
-#[derive(Clone, Copy, Debug, PartialEq, Eq)]
+#[derive(Clone, Copy)]
 pub enum LinesAnswer {
     /// They agree, scores included; or they agree, and no choice of the lines is known to make a game.
     Agree,

@@ -10,7 +10,7 @@ use compare_choices::{Best, Comparison, Sheets};
 use std::alloc::{AllocError, Global};
 
 /// What is found of a pair of lines.
-#[derive(Clone, Copy, Debug, PartialEq, Eq)]
+#[derive(Clone, Copy)]
 pub struct PairAnswer {
     /// What the rules say of the lines.
     pub lines: LinesAnswer,

@@ -9,7 +9,7 @@ use compare_choices::{Sheets, Trial, have_other_racks};
 use gcg_read::{Event, Seat};
 
 /// Why the rack of the player's own sheet is not taken.
-#[derive(Clone, Copy, Debug, PartialEq, Eq)]
+#[derive(Clone, Copy)]
 pub enum OwnRack {
     /// There is no game with it.
     NoGame,
@@ -22,7 +22,7 @@ pub enum OwnRack {
 }
 
 /// What is said of the racks of a pair.
-#[derive(Clone, Copy, Debug, PartialEq, Eq)]
+#[derive(Clone, Copy)]
 pub enum RacksAnswer {
     /// They are the same, or one line does not state one.
     Same,

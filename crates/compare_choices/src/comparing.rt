@@ -15,7 +15,7 @@ use ref_tiles::Rules;
 use std::alloc::{AllocError, Global};
 
 /// A choice that makes no game, and where its correction stops.
-#[derive(Clone, Copy, Debug, PartialEq, Eq)]
+#[derive(Clone, Copy)]
 pub struct Stop {
     /// The choice.
     pub choice: usize,

@@ -23,7 +23,7 @@ pub(crate) struct Corrected {
 }
 
 /// Where the correction of some events stops: an event is refused whatever its numbers are.
-#[derive(Clone, Copy, Debug, PartialEq, Eq)]
+#[derive(Clone, Copy)]
 pub struct Stopped {
     /// The place of the event, counted from 0.
     pub place: usize,

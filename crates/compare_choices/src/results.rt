@@ -10,7 +10,7 @@ use game_corrections::{Standing, last_total, standing_in};
 use gcg_read::{Event, Points, Seat};
 
 /// The last totals of a player.
-#[derive(Clone, Copy, Debug, PartialEq, Eq)]
+#[derive(Clone, Copy)]
 pub struct LastTotals {
     /// On the first sheet; none if no line there is the player's, or the last one lacks its total.
     pub first: Option<Points>,
@@ -23,7 +23,7 @@ pub struct LastTotals {
 }
 
 /// How a game ends by two sheets and by the merged record.
-#[derive(Clone, Copy, Debug, PartialEq, Eq)]
+#[derive(Clone, Copy)]
 pub struct Results {
     /// The last totals of the first player.
     pub of_first: LastTotals,

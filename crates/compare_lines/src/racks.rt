@@ -74,7 +74,7 @@ pub(crate) fn push_racks(
     pair: &Pair,
     answer: RacksAnswer,
 ) -> Result<(), AllocError> {
-    if answer == RacksAnswer::Same {
+    if matches!(answer, RacksAnswer::Same) {
         return Ok(());
     }
     push_numbers(text, sheets, pair)?;

@@ -9,7 +9,7 @@ use gcg_drafts::Missing;
 use gcg_read::Event;
 
 /// How many numbers are put into a draft.
-#[derive(Clone, Copy, Debug, PartialEq, Eq)]
+#[derive(Clone, Copy)]
 pub struct PutIn {
     /// How many scores.
     pub scores: usize,

@@ -7,7 +7,7 @@ use gcg_drafts::{Amiss, amiss_on};
 use gcg_read::{ReadFault, Why};
 
 /// The first fault of a draft.
-#[derive(Clone, Copy, Debug, PartialEq, Eq)]
+#[derive(Clone, Copy)]
 pub struct DraftFault {
     /// The line and what is wrong there. It is `Fields` if the line lacks a field or has too many.
     pub fault: ReadFault,

@@ -21,7 +21,7 @@ use ref_tiles::Rules;
 use std::alloc::{AllocError, Global};
 
 /// What a player has before the next line.
-#[derive(Clone, Copy, Debug, PartialEq, Eq)]
+#[derive(Clone, Copy)]
 pub struct NextSide {
     /// The total so far.
     pub total: i32,
@@ -30,7 +30,7 @@ pub struct NextSide {
 }
 
 /// What the next line is about.
-#[derive(Clone, Copy, Debug, PartialEq, Eq)]
+#[derive(Clone, Copy)]
 pub struct NextLine {
     /// Whose turn it is; none before the first turn, which may be either player's.
     pub turn: Option<Seat>,

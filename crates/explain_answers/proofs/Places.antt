@@ -1,6 +1,7 @@
 -- The place of the event of the question.
-use Rattle.std.proofs.Common.{◌≡◌, ℕ, ◌<◌, List, [], ◌∷◌, length, Option, Some, None, sym, subst}
+use Rattle.std.proofs.Common.{◌≡◌, ℕ, ◌<◌, List, [], ◌∷◌, length, Option, Some, None, sym, ap, ◌∙◌, subst}
 use Rattle.std.proofs.lemmas.List.Quantifiers.{position-Some}
+use Rattle.std.proofs.lemmas.Option.{same_Some}
 use Rattle.ref_tiles.specs.declared.rulebook.Rules.{Rules}
 use Rattle.gcg_read.specs.declared.events.Event.{Event}
 use Rattle.game_board.specs.Places.{is_from, place_of_line}
@@ -9,8 +10,9 @@ use Rattle.game_case.specs.declared.entries.Entry.{Entry}
 use Rattle.game_case.specs.declared.findings.Finding.{Finding}
 use Rattle.game_case.specs.declared.findings.Finding.TheVariants as finding
 use Rattle.explain_events.specs.declared.explaining.Explanation.{Explanation}
-use Rattle.explain_events.specs.Explaining.{ExplainsEvent}
-use Rattle.explain_answers.specs.Explaining.{AreWholeFacts, ExplainsAt, IsExplanationAt}
+use Rattle.explain_events.specs.Explaining.{SayTheRacks, ExplainsEvent}
+use Rattle.engine_stages.specs.declared.verdicts.GameFault.{GameFault}
+use Rattle.explain_answers.specs.Explaining.{AreWholeFacts, SayTheFinding, ExplainsAt, IsExplanationAt}
 
 -- the place of an event is within the record
 pub line_within : (events : List Event) (line place : ℕ) → place_of_line events line ≡ Some place → place < length events
@@ -31,14 +33,24 @@ explains_whole rules list entry asked x none line facts picture =
     subst (λ (a : Option ℕ). ExplainsAt rules list entry a x) (sym none) (line, facts, picture)
 
 pub explains_at : (rules : Rules) (list : List (List ℕ)) (entry : Entry) (asked : Option ℕ) (place : ℕ) (x : Explanation) → asked ≡ Some place
-    → ExplainsEvent rules list entry.record.events place x → ExplainsAt rules list entry asked x
-explains_at rules list entry asked place x some reported =
-    subst (λ (a : Option ℕ). ExplainsAt rules list entry a x) (sym some) reported
+    → ExplainsEvent rules list entry.record.events place x → SayTheFinding rules list entry place x → ExplainsAt rules list entry asked x
+explains_at rules list entry asked place x some reported racks =
+    subst (λ (a : Option ℕ). ExplainsAt rules list entry a x) (sym some) (reported, racks)
 
 pub asked_none : (rules : Rules) (list : List (List ℕ)) (entry : Entry) (asked : Option ℕ) → asked ≡ None → IsExplanationAt rules list entry asked None
 asked_none rules list entry asked none = none
 
 pub asked_some : (rules : Rules) (list : List (List ℕ)) (entry : Entry) (asked : Option ℕ) (place : ℕ) (x : Explanation) → asked ≡ Some place
-    → ExplainsEvent rules list entry.record.events place x → IsExplanationAt rules list entry asked (Some x)
-asked_some rules list entry asked place x some reported =
-    subst (λ (a : Option ℕ). IsExplanationAt rules list entry a (Some x)) (sym some) reported
+    → ExplainsEvent rules list entry.record.events place x → SayTheFinding rules list entry place x → IsExplanationAt rules list entry asked (Some x)
+asked_some rules list entry asked place x some reported racks =
+    subst (λ (a : Option ℕ). IsExplanationAt rules list entry a (Some x)) (sym some) (reported, racks)
+
+-- what is said of the fault on the line of the event
+pub finding_said : (rules : Rules) (list : List (List ℕ)) (entry : Entry) (place own : ℕ) (fault : Option GameFault) (x : Explanation) → x.line ≡ Some own
+    → ((why : GameFault) → entry.finding ≡ finding.Illegal own why → fault ≡ Some why) → SayTheRacks rules list entry.record.events place fault x.facts.items
+    → SayTheFinding rules list entry place x
+finding_said rules list entry place own fault x on_line is said =
+    λ line why found there.
+    let same : line ≡ own = same_Some line own (sym there ∙ on_line) in
+    subst (λ (f : Option GameFault). SayTheRacks rules list entry.record.events place f x.facts.items)
+    (is why (found ∙ ap (λ (n : ℕ). finding.Illegal n why) same)) said

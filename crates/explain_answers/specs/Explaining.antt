@@ -13,7 +13,8 @@ use Rattle.explain_facts.specs.declared.facts.Fact.TheVariants as fact
 use Rattle.explain_facts.specs.declared.facts.games.GameFact.TheVariants as game_fact
 use Rattle.explain_facts.specs.Wholes.{AreNotes}
 use Rattle.explain_events.specs.declared.explaining.Explanation.{Explanation}
-use Rattle.explain_events.specs.Explaining.{ExplainsEvent}
+use Rattle.engine_stages.specs.declared.verdicts.GameFault.{GameFault}
+use Rattle.explain_events.specs.Explaining.{SayTheRacks, ExplainsEvent}
 
 -- what is found of a record as a whole
 abbrev pub whole_facts : Finding → List Fact
@@ -42,10 +43,16 @@ pub record AreWholeFacts (rules : Rules) (list : List (List ℕ)) (events : List
   pub following : facts ≡ whole_facts found ++ notes
   pub reported : NotesAre rules list events found notes
 
+-- what the facts about the event at a place have to say of the racks, if the fault that is found is on its line
+abbrev pub SayTheFinding : Rules → (list : List (List ℕ)) → Entry → (place : ℕ) → Explanation → Type 0
+SayTheFinding rules list entry place x =
+    (line : ℕ) (why : GameFault) → entry.finding ≡ finding.Illegal line why → x.line ≡ Some line
+    → SayTheRacks rules list entry.record.events place (Some why) x.facts.items
+
 -- what explains the event at a place, or the record as a whole
 abbrev pub ExplainsAt : Rules → (list : List (List ℕ)) → Entry → Option ℕ → Explanation → Type 0
 ExplainsAt rules list entry None x = (x.line ≡ None) × AreWholeFacts rules list entry.record.events entry.finding x.facts.items × (x.picture ≡ None)
-ExplainsAt rules list entry (Some place) x = ExplainsEvent rules list entry.record.events place x
+ExplainsAt rules list entry (Some place) x = ExplainsEvent rules list entry.record.events place x × SayTheFinding rules list entry place x
 
 -- what is explained of an event on a line or after it; none if there is no event
 abbrev pub IsExplanationAt : Rules → (list : List (List ℕ)) → Entry → (place : Option ℕ) → Option Explanation → Type 0

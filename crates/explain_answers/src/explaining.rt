@@ -1,9 +1,12 @@
 //! What explains a record, or its event on a line.
-ghost use Rattle.std.specs.Prelude.{◌≡◌, ◌<◌, ◌∷◌, [], None, IfOk, OnOk, length};
+ghost use Rattle.std.specs.Prelude.{◌≡◌, ◌<◌, ◌∷◌, [], Some, None, IfOk, OnOk, length};
 ghost use Rattle.game_walk.specs.Walks.{IsWalkOf};
 ghost use Rattle.explain_events.specs.Explaining.{ExplainsEvent};
 ghost use Rattle.explain_facts.specs.declared.facts.Fact.TheVariants as fact;
-ghost use Rattle.explain_answers.specs.Explaining.{GoOnWithNotes, AreWholeFacts, IsExplanation};
+ghost use Rattle.std.specs.Option.{option_copied};
+ghost use Rattle.engine_stages.specs.declared.verdicts.GameFault.{GameFault};
+ghost use Rattle.game_case.specs.declared.findings.Finding.TheVariants.{Illegal};
+ghost use Rattle.explain_answers.specs.Explaining.{GoOnWithNotes, AreWholeFacts, SayTheFinding, IsExplanation};
 
 use engine_stages::GameFault;
 use explain_events::{Explanation, explain_event, passed_by};
@@ -85,7 +88,9 @@ fn whole_facts(
 }
 
 /// The fault that a finding has on a line.
-fn fault_on(finding: &Finding, line: u32) -> Option<&GameFault> {
+fn fault_on(finding: &Finding, line: u32) -> Option<&GameFault>
+    ensures { (why : GameFault) → finding.now ≡ Illegal line why → option_copied result ≡ Some why }
+{
     match finding {
         Finding::Illegal { line: on, fault } if *on == line => Some(fault),
         _ => None,
@@ -114,6 +119,7 @@ fn whole(
 }
 
 /// What explains the event at a place.
+#[tactic(auto, using(crate::proofs::Places::finding_said))]
 fn explained(
     alloc: Global,
     rules: &Rules,
@@ -124,7 +130,8 @@ fn explained(
 ) -> Result<Explanation, AllocError>
     requires walk { IsWalkOf rules.now list.now entry.now.record.events walk.now }
     requires within { place < length entry.now.record.events }
-    ensures { IfOk result (ExplainsEvent rules.now list.now entry.now.record.events place) }
+    ensures explained { IfOk result (ExplainsEvent rules.now list.now entry.now.record.events place) }
+    ensures racks { IfOk result (SayTheFinding rules.now list.now entry.now place) }
 {
     let line = entry.record.events.as_slice()[place].line;
     let fault = fault_on(&entry.finding, line);
@@ -136,7 +143,8 @@ fn explained(
 /// It fails only if memory runs out.
 ///
 /// The first fact about the first event that the rules refuse is that of the fault; an event after it has the fact that it was not judged, and no
-/// other; no event is without a fact. That the facts are all that is to be said is tested.
+/// other; no event is without a fact; and a line that is the first to exceed a bound of the racks has the fact of that bound. That the facts are all that
+/// is to be said is tested.
 #[tactic(auto, using(crate::proofs::Places::fault_within, crate::proofs::Places::explains_whole, crate::proofs::Places::explains_at, crate::proofs::Places::asked_none, crate::proofs::Places::asked_some))]
 pub fn explain(
     alloc: Global,

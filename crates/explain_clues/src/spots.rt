@@ -10,7 +10,7 @@ use ref_tiles::{Rules, SQUARES, Symbol};
 use std::alloc::{AllocError, Global};
 
 /// Where a text begins, and in which direction it goes.
-#[derive(Clone, Copy, Debug, PartialEq, Eq)]
+#[derive(Clone, Copy)]
 pub struct Spot {
     /// The direction.
     pub dir: Dir,

@@ -15,7 +15,7 @@ use ref_tiles::{Premium, Rules, Tile};
 const WORDS: usize = 8;
 
 /// A square of a word that a play forms. It adds the points, times the letter premium.
-#[derive(Clone, Copy, Debug, PartialEq, Eq)]
+#[derive(Clone, Copy)]
 pub struct WordSquare {
     /// The square.
     pub square: Square,

@@ -3,3 +3,4 @@ pub mod Passed
 pub mod Refusing
 pub mod Showing
 pub mod Ruling
+pub mod Bounding

@@ -1,5 +1,5 @@
 -- What is said of an event by how it stands in the record.
-use Rattle.std.proofs.Common.{◌≡◌, ℕ, ◌+◌, ◌<◌, nat_lt, Bool, true, false, List, [], ◌∷◌, ◌++◌, length, length-append, reverse, take, slice_get, Option, Some, refl, sym, ap, ◌∙◌, subst, arith}
+use Rattle.std.proofs.Common.{◌≡◌, ℕ, zero, suc, ◌+◌, ◌<◌, nat_lt, Bool, true, false, List, [], ◌∷◌, ◌++◌, length, length-append, reverse, take, slice_get, Option, Some, None, refl, sym, ap, ◌∙◌, subst, arith}
 use Rattle.std.proofs.lemmas.Bool.{both_ways, ltb-true, ltb-false}
 use Rattle.std.proofs.lemmas.Option.{same_Some}
 use Rattle.first_faults.proofs.CheckLaws.{some_fault}
@@ -8,7 +8,7 @@ use Rattle.gcg_read.specs.declared.events.Event.{Event}
 use Rattle.game_turns.specs.declared.faults.RuleFault.{RuleFault}
 use Rattle.game_turns.specs.Standing.{is_withdraw}
 use Rattle.game_turns.specs.Tallies.{State, withdraws, tally, tally_at}
-use Rattle.game_turns.specs.Places.{fault_at, AreAllowedTo, IsFirstRefusal, IsRefusedBefore}
+use Rattle.game_turns.specs.Places.{fault_of_event, fault_at, AreAllowed, AreAllowedTo, IsFirstRefusal, IsRefusedBefore}
 use Rattle.explain_facts.specs.declared.facts.Fact.{Fact}
 use Rattle.explain_facts.specs.declared.facts.Fact.TheVariants as fact
 use Rattle.explain_facts.specs.declared.facts.rulings.RulingFact.TheVariants as ruling_fact
@@ -30,6 +30,41 @@ pub adds_up : (rules : Rules) (events past : List Event) (place : ℕ) (e : Even
 adds_up rules events past place e s stands is front =
     is ∙ ap (λ (o : Option Event). tally rules (withdraws o) (reverse (take place events))) stands
     ∙ ap (λ (es : List Event). tally rules (is_withdraw e.kind) (reverse es)) (sym front)
+
+-- what is read in the first of some events
+get_front : (events : List Event) (n k : ℕ) → k < n → slice_get (take n events) k ≡ slice_get events k
+get_front events zero k below = absurd (omega (arith, below))
+get_front [] (suc n) k below = refl
+get_front (e ∷ events) (suc n) zero below = refl
+get_front (e ∷ events) (suc n) (suc k) below = get_front events n k (omega (arith, below))
+
+take_front : (events : List Event) (n k : ℕ) → k < n → take k (take n events) ≡ take k events
+take_front events zero k below = absurd (omega (arith, below))
+take_front [] (suc n) k below = refl
+take_front (e ∷ events) (suc n) zero below = refl
+take_front (e ∷ events) (suc n) (suc k) below = ap (λ (es : List Event). e ∷ es) (take_front events n k (omega (arith, below)))
+
+front_below : (events : List Event) (n k : ℕ) → k < length (take n events) → k < n
+front_below [] zero k within = absurd (omega (arith, within))
+front_below [] (suc n) k within = absurd (omega (arith, within))
+front_below (e ∷ events) zero k within = absurd (omega (arith, within))
+front_below (e ∷ events) (suc n) zero within = omega arith
+front_below (e ∷ events) (suc n) (suc k) within = let below = front_below events n k (omega (arith, within)) in omega (arith, below)
+
+front_allowed : (rules : Rules) (list : List (List ℕ)) (events : List Event) (place k : ℕ) → k < place → fault_at rules list events k ≡ None
+    → fault_at rules list (take place events) k ≡ None
+unfolding fault_at
+front_allowed rules list events place k below none =
+    subst (λ (es : List Event). fault_of_event rules list (tally rules (withdraws (slice_get (take place events) k)) (reverse es)) (slice_get (take place events) k) ≡ None)
+    (sym (take_front events place k below))
+    (subst (λ (o : Option Event). fault_of_event rules list (tally rules (withdraws o) (reverse (take k events))) o ≡ None) (sym (get_front events place k below)) none)
+
+-- the events before one that are allowed, by themselves
+pub allowed_before : (rules : Rules) (list : List (List ℕ)) (events past : List Event) (place : ℕ) → past ≡ take place events → AreAllowedTo rules list events place
+    → AreAllowed rules list past
+allowed_before rules list events past place front allowed =
+    subst (AreAllowed rules list) (sym front)
+    (λ k within. let below = front_below events place k within in front_allowed rules list events place k below (allowed k below))
 
 -- an event that is allowed together with those before it is not refused, and none before it is
 pub of_allowed : (rules : Rules) (list : List (List ℕ)) (events : List Event) (place : ℕ) (facts : List Fact) → AreAllowedTo rules list events (place + 1) → 0 < length facts

@@ -1,13 +1,19 @@
 -- What explains an event of a record.
-use Rattle.std.specs.Prelude.{◌≡◌, ◌⊎◌, ℕ, ◌+◌, ◌<◌, true, List, [], ◌∷◌, All, length, slice_get, Option, Some, None}
+use Rattle.std.specs.List.{list_any}
+use Rattle.std.specs.Prelude.{⊤, ◌≡◌, ◌⊎◌, ℕ, ◌+◌, ◌<◌, true, List, [], ◌∷◌, All, length, slice_get, Option, Some, None}
 use Rattle.ref_tiles.specs.declared.tiles.Tile.{Tile}
 use Rattle.ref_tiles.specs.declared.rulebook.Rules.{Rules}
 use Rattle.gcg_read.specs.declared.events.Event.{Event}
 use Rattle.gcg_read.specs.declared.events.EventKind.{EventKind}
 use Rattle.gcg_read.specs.declared.events.EventKind.TheVariants as kind
 use Rattle.game_turns.specs.declared.faults.RuleFault.{RuleFault}
-use Rattle.game_turns.specs.Places.{AreAllowedTo, IsRefusedBefore, fault_at}
+use Rattle.game_turns.specs.Places.{AreAllowed, AreAllowedTo, IsRefusedBefore, fault_at}
 use Rattle.game_turns.specs.Tallies.{is_play}
+use Rattle.deal_steps.specs.declared.steps.Step.{Step}
+use Rattle.deal_steps.specs.declared.faults.DealBound.{DealBound}
+use Rattle.deal_steps.specs.declared.faults.DealBound.TheVariants as bound
+use Rattle.engine_stages.specs.declared.verdicts.GameFault.{GameFault}
+use Rattle.engine_stages.specs.declared.verdicts.GameFault.TheVariants as game
 use Rattle.game_deal.specs.Recorded.{steps_of}
 use Rattle.game_board.specs.Laying.{board_before, laying_fault}
 use Rattle.ref_play.specs.declared.faults.PlayFault.{PlayFault}
@@ -18,7 +24,7 @@ use Rattle.explain_facts.specs.declared.facts.rulings.RulingFact.TheVariants as 
 use Rattle.explain_plays.specs.declared.words.ScoredPlay.{ScoredPlay}
 use Rattle.explain_facts.specs.Moments.{Moment, IsMomentAt}
 use Rattle.explain_facts.specs.Facts.{IsTrue}
-use Rattle.explain_facts.specs.FaultFacts.{begin_with}
+use Rattle.explain_facts.specs.FaultFacts.{begin_with, is_fact_of_bound, says_bound, IsFirstBoundAt}
 use Rattle.explain_facts.specs.Facts.{IsTrueOfRacks}
 use Rattle.explain_plays.specs.Words.{IsScoredText}
 use Rattle.explain_plays.specs.Boards.{shown_squares}
@@ -50,6 +56,29 @@ pub record SayTheRuling (rules : Rules) (list : List (List ℕ)) (events : List 
   pub refused : (why : RuleFault) → AreAllowedTo rules list events place → fault_at rules list events place ≡ Some why → begin_with why facts ≡ true
   pub following : (line : ℕ) (why : RuleFault) → IsRefusedBefore rules list events place line why → facts ≡ fact.Ruling (ruling_fact.NotJudged line) ∷ []
   pub some : 0 < length facts
+
+-- the fact of the bound that a fault of the racks names is found, if that is the first bound that the steps exceed, and they do at the place
+abbrev pub IsFoundFor : Rules → List Step → (place : ℕ) → GameFault → Option Fact → Type 0
+IsFoundFor rules steps place (game.Rule why) said = ⊤
+IsFoundFor rules steps place game.RackTooBig said =
+    (line : ℕ) → IsFirstBoundAt rules steps place (bound.RackTooBig line) → says_bound (bound.RackTooBig line) said ≡ true
+IsFoundFor rules steps place (game.TilesShort kind) said =
+    (line : ℕ) → IsFirstBoundAt rules steps place (bound.TilesShort line kind) → says_bound (bound.TilesShort line kind) said ≡ true
+IsFoundFor rules steps place (game.NoDeal earlier) said = ⊤
+
+-- What the facts about the event at a place have to say of its racks: if the rules allow every event, and this is the first bound that the steps exceed, and
+-- they do at the place, one of the facts says so.
+abbrev pub SayTheBound : Rules → (list : List (List ℕ)) → List Event → (place : ℕ) → DealBound → List Fact → Type 0
+SayTheBound rules list events place exceeded facts =
+    AreAllowed rules list events → IsFirstBoundAt rules (steps_of rules events) place exceeded → list_any (is_fact_of_bound exceeded) facts ≡ true
+
+-- the same for the fault of the racks that is to be explained
+abbrev pub SayTheRacks : Rules → (list : List (List ℕ)) → List Event → (place : ℕ) → Option GameFault → List Fact → Type 0
+SayTheRacks rules list events place None facts = ⊤
+SayTheRacks rules list events place (Some (game.Rule why)) facts = ⊤
+SayTheRacks rules list events place (Some game.RackTooBig) facts = (line : ℕ) → SayTheBound rules list events place (bound.RackTooBig line) facts
+SayTheRacks rules list events place (Some (game.TilesShort kind)) facts = (line : ℕ) → SayTheBound rules list events place (bound.TilesShort line kind) facts
+SayTheRacks rules list events place (Some (game.NoDeal earlier)) facts = ⊤
 
 -- ---- what is shown
 

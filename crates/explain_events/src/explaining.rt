@@ -2,7 +2,8 @@
 ghost use Rattle.std.specs.Prelude.{◌≡◌, ◌<◌, Some, IfOk, length, slice_get};
 ghost use Rattle.game_turns.specs.Tallies.{is_play};
 ghost use Rattle.game_walk.specs.Walks.{IsWalkOf};
-ghost use Rattle.explain_events.specs.Explaining.{IsPlayShown, IsShown, IsPicture, ExplainsEvent};
+ghost use Rattle.std.specs.Option.{option_copied};
+ghost use Rattle.explain_events.specs.Explaining.{IsPlayShown, IsShown, IsPicture, SayTheRacks, ExplainsEvent};
 
 use crate::sheets::{Sheet, facts_at};
 use engine_stages::GameFault;
@@ -117,7 +118,8 @@ fn picture_at(
 /// It fails only if memory runs out.
 ///
 /// The first fact about an event that the rules refuse is that of the fault; an event after it has the fact that it was not judged, and no other; no
-/// event is without a fact. That the facts are all that is to be said is tested.
+/// event is without a fact. If the rules allow every event, and its step is the first that exceeds the bound which `fault` names, a fact says so. That a proof
+/// that there is no deal is found again, and that the facts are all that is to be said, is tested.
 #[tactic(auto, using(crate::proofs::Refusing::read_at))]
 pub fn explain_event(
     alloc: Global,
@@ -130,7 +132,8 @@ pub fn explain_event(
 ) -> Result<Explanation, AllocError>
     requires walk { IsWalkOf rules.now list.now record.now.events walk.now }
     requires within { place < length record.now.events }
-    ensures { IfOk result (ExplainsEvent rules.now list.now record.now.events place) }
+    ensures explained { IfOk result (ExplainsEvent rules.now list.now record.now.events place) }
+    ensures racks { IfOk result (λ x. SayTheRacks rules.now list.now record.now.events place (option_copied fault.entry) x.facts.items) }
 {
     let sheet = Sheet {
         rules,

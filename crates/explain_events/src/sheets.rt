@@ -8,8 +8,9 @@ ghost use Rattle.game_turns.specs.declared.faults.RuleFault.{RuleFault};
 ghost use Rattle.game_walk.specs.Walks.{IsWalkOf};
 ghost use Rattle.explain_facts.specs.declared.facts.Fact.TheVariants as fact;
 ghost use Rattle.explain_facts.specs.declared.facts.rulings.RulingFact.TheVariants as ruling_fact;
-ghost use Rattle.explain_facts.specs.FaultFacts.{begin_with};
-ghost use Rattle.explain_events.specs.Explaining.{IsTrueAt, SayTheRuling};
+ghost use Rattle.std.specs.Option.{option_copied};
+ghost use Rattle.explain_facts.specs.FaultFacts.{begin_with, listed};
+ghost use Rattle.explain_events.specs.Explaining.{IsTrueAt, IsFoundFor, SayTheRuling, SayTheRacks};
 
 use crate::judging::{Judged, judged_at};
 use crate::passing::passed_by;
@@ -51,7 +52,8 @@ fn rack_fact(
     place: usize,
     fault: &GameFault,
 ) -> Result<Option<Fact>, AllocError>
-    ensures { IfOk result (λ fact. IfSome fact (IsTrueOfRacks rules.now steps.now place)) }
+    ensures reported { IfOk result (λ fact. IfSome fact (IsTrueOfRacks rules.now steps.now place)) }
+    ensures found { IfOk result (IsFoundFor rules.now steps.now place fault.now) }
 {
     match fault {
         GameFault::Rule(_) => Ok(None),
@@ -143,7 +145,8 @@ fn push_some(
 ) -> Result<(), AllocError>
     requires reported { All (IsTrueAt sheet.now.rules.now sheet.now.list.now sheet.now.record.now.events place) facts.old.items }
     requires holds { IfSome fact (IsTrueAt sheet.now.rules.now sheet.now.list.now sheet.now.record.now.events place) }
-    ensures { OnOk result (All (IsTrueAt sheet.now.rules.now sheet.now.list.now sheet.now.record.now.events place) facts.new.items) }
+    ensures reported { OnOk result (All (IsTrueAt sheet.now.rules.now sheet.now.list.now sheet.now.record.now.events place) facts.new.items) }
+    ensures added { OnOk result (facts.new.items ≡ facts.old.items ++ listed fact) }
 {
     match fact {
         None => Ok(()),
@@ -156,8 +159,10 @@ fn push_some(
 fn push_allowed(facts: &mut Vec<Fact>, sheet: &Sheet<'_>, place: usize) -> Result<(), AllocError>
     requires reported { All (IsTrueAt sheet.now.rules.now sheet.now.list.now sheet.now.record.now.events place) facts.old.items }
     requires allowed { AreAllowedTo sheet.now.rules.now sheet.now.list.now sheet.now.record.now.events (place + 1) }
+    requires racks { SayTheRacks sheet.now.rules.now sheet.now.list.now sheet.now.record.now.events place (option_copied sheet.now.fault) facts.old.items }
     ensures reported { OnOk result (All (IsTrueAt sheet.now.rules.now sheet.now.list.now sheet.now.record.now.events place) facts.new.items) }
     ensures some { OnOk result (0 < length facts.new.items) }
+    ensures racks { OnOk result (SayTheRacks sheet.now.rules.now sheet.now.list.now sheet.now.record.now.events place (option_copied sheet.now.fault) facts.new.items) }
 {
     if facts.is_empty() {
         push_fact(facts, sheet, place, Fact::Ruling(RulingFact::Allowed))?;
@@ -214,18 +219,21 @@ fn push_rack_facts(
 ) -> Result<(), AllocError>
     requires walk { IsWalkOf sheet.now.rules.now sheet.now.list.now sheet.now.record.now.events sheet.now.walk.now }
     requires reported { All (IsTrueAt sheet.now.rules.now sheet.now.list.now sheet.now.record.now.events place) facts.old.items }
-    ensures { OnOk result (All (IsTrueAt sheet.now.rules.now sheet.now.list.now sheet.now.record.now.events place) facts.new.items) }
+    ensures reported { OnOk result (All (IsTrueAt sheet.now.rules.now sheet.now.list.now sheet.now.record.now.events place) facts.new.items) }
+    ensures racks { OnOk result (SayTheRacks sheet.now.rules.now sheet.now.list.now sheet.now.record.now.events place (Some fault.now) facts.new.items) }
 {
     let Some(passed) = passed_by(sheet.rules, sheet.list, sheet.record, sheet.walk) else {
         return Ok(());
     };
-    let steps = all_steps(alloc, &passed)?;
-    let remaining = remaining_fact(alloc, sheet.rules, steps.as_slice(), place, fault)?;
+    let all = all_steps(alloc, &passed)?;
+    let steps = all.as_slice();
+    let remaining = remaining_fact(alloc, sheet.rules, steps, place, fault)?;
     push_some(facts, sheet, place, remaining)?;
-    let fact = rack_fact(alloc, sheet.rules, steps.as_slice(), place, fault)?;
+    let fact = rack_fact(alloc, sheet.rules, steps, place, fault)?;
     push_some(facts, sheet, place, fact)?;
-    let dealt = dealt_fact(alloc, sheet.rules, steps.as_slice(), place, fault)?;
-    push_some(facts, sheet, place, dealt)
+    let dealt = dealt_fact(alloc, sheet.rules, steps, place, fault)?;
+    push_some(facts, sheet, place, dealt)?;
+    Ok(())
 }
 
 /// What is said of an event that the rules allow: that they do, or what is wrong with the racks.
@@ -243,6 +251,7 @@ fn allowed_facts(
     requires allowed { AreAllowedTo sheet.now.rules.now sheet.now.list.now sheet.now.record.now.events (place + 1) }
     ensures reported { IfOk result (λ facts. All (IsTrueAt sheet.now.rules.now sheet.now.list.now sheet.now.record.now.events place) facts.items) }
     ensures some { IfOk result (λ facts. 0 < length facts.items) }
+    ensures racks { IfOk result (λ facts. SayTheRacks sheet.now.rules.now sheet.now.list.now sheet.now.record.now.events place (option_copied sheet.now.fault) facts.items) }
 {
     let Some(fault) = sheet.fault else {
         let facts = one_fact(alloc, sheet, place, Fact::Ruling(RulingFact::Allowed))?;
@@ -267,6 +276,7 @@ fn refused_facts(
     requires within { place < length sheet.now.record.now.events }
     requires stands { slice_get sheet.now.record.now.events place ≡ Some event.now }
     requires state { state_of machine.now ≡ tally_at sheet.now.rules.now sheet.now.record.now.events place }
+    requires allowed { AreAllowedTo sheet.now.rules.now sheet.now.list.now sheet.now.record.now.events place }
     requires fails { fault_at sheet.now.rules.now sheet.now.list.now sheet.now.record.now.events place ≡ Some why.now }
     ensures reported { IfOk result (λ facts. All (IsTrueAt sheet.now.rules.now sheet.now.list.now sheet.now.record.now.events place) facts.items) }
     ensures first { IfOk result (λ facts. begin_with why.now facts.items ≡ true) }
@@ -316,6 +326,7 @@ pub(crate) fn facts_at(
     requires stands { slice_get sheet.now.record.now.events place ≡ Some event.now }
     ensures reported { IfOk result (λ facts. All (IsTrueAt sheet.now.rules.now sheet.now.list.now sheet.now.record.now.events place) facts.items) }
     ensures ruling { IfOk result (λ facts. SayTheRuling sheet.now.rules.now sheet.now.list.now sheet.now.record.now.events place facts.items) }
+    ensures racks { IfOk result (λ facts. SayTheRacks sheet.now.rules.now sheet.now.list.now sheet.now.record.now.events place (option_copied sheet.now.fault) facts.items) }
 {
     match judged_at(sheet.walk, place) {
         Some(Judged::Allowed(game)) => allowed_facts(alloc, sheet, game, event, place),

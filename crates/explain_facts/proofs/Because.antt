@@ -7,7 +7,7 @@ use Rattle.std.proofs.lemmas.Bool.{not-true, both_ways, or_cases, ltb-true, leb-
 use Rattle.std.proofs.lemmas.Bool.Decides.{Decides-eqb, Decides-int_eq}
 use Rattle.std.proofs.lemmas.Option.{same_Some}
 use Rattle.first_faults.specs.Checks.{fails, first_fault}
-use Rattle.first_faults.proofs.CheckLaws.{some_fault}
+use Rattle.first_faults.proofs.CheckLaws.{some_fault, test_fails}
 use Rattle.ref_tiles.specs.declared.tiles.Tile.{Tile}
 use Rattle.ref_tiles.specs.declared.symbols.Symbol.{Symbol}
 use Rattle.ref_tiles.specs.declared.rulebook.Rules.{Rules}
@@ -29,12 +29,13 @@ use Rattle.game_turns.specs.declared.faults.RuleFault.{RuleFault}
 use Rattle.game_turns.specs.declared.faults.RuleFault.TheVariants as fault
 use Rattle.game_turns.specs.Seats.{same_seat, may_move, side_of}
 use Rattle.game_turns.specs.Standing.{is_withdraw}
-use Rattle.game_turns.specs.Tallies.{State, Latest, played, taken_back, other, is_time, is_last_rack}
+use Rattle.game_turns.specs.Tallies.{State, Latest, played, taken_back, other, is_play, is_time, is_last_rack}
 use Rattle.game_turns.specs.LatestEvents.{latest_words}
 use Rattle.game_turns.specs.Checks.{is_over, may_idle, play_fault, text_score, points_in, is_bonus, is_penalty, listed_in, is_stale, interrupts, total_after, check_score, check_total, check_turn, check_play, check_pass, check_exchange, check_withdraw, check_challenge, check_time, check_other_rack, check_own_rack, check_due_rack, check_last_rack, check_kind, fault_in}
 use Rattle.explain_clues.specs.Texts.{leaves_board, new_tiles}
 use Rattle.explain_facts.specs.Kinds.{OfPlay, OfLastRack, is_exchange, is_withdrawal, is_challenge}
 use Rattle.explain_facts.specs.Tiles.{exchanged, holder_by}
+use Rattle.explain_facts.specs.Scores.{IsDoubledFor}
 
 -- ---- the fault of a list of checks
 
@@ -71,7 +72,7 @@ after_none : (P : RuleFault → Type 0) (check : Option RuleFault) (checks : Lis
 after_none P None checks own rest = rest refl
 after_none P (Some f) checks own rest = own
 
-no_play_fault : (o : Option PlayFault) → option_map fault.Play o ≡ None → o ≡ None
+pub no_play_fault : (o : Option PlayFault) → option_map fault.Play o ≡ None → o ≡ None
 no_play_fault None e = refl
 no_play_fault (Some f) e = cc
 
@@ -95,17 +96,32 @@ IsNotAwaited taken player (played p) = (same_seat p.player player ≡ false) ⊎
 IsNotAwaited taken player (taken_back tiles) = Unit {0}
 IsNotAwaited taken player other = Unit {0}
 
+-- a score is compared only where the play is legal, and where the points of a rack are those of the player who is out
+abbrev pub IsScored : State → Event → EventKind → Type 0
+IsScored s e (kind.Play at dir word) = play_fault s.board dir at word ≡ None
+IsScored s e (kind.LastRack tiles) = (out : Seat) → s.out ≡ Some out → same_seat out e.player ≡ true
+IsScored s e rest = Unit {0}
+
+-- the latest event is no play of the player that stands, or one whose bonus is another
+abbrev pub IsNoBonus : Rules → (list : List (List ℕ)) → Event → Latest → Type 0
+IsNoBonus rules list e (played p) =
+    (p.stands ≡ false) ⊎ ((same_seat p.player e.player ≡ false)
+    ⊎ ((list_any (is_listed list) p.words ≡ true) × (is_bonus rules.challenge_unit (listed_in list p.words) e.score ≡ false)))
+IsNoBonus rules list e (taken_back tiles) = Unit {0}
+IsNoBonus rules list e other = Unit {0}
+
 abbrev pub Because : Rules → (list : List (List ℕ)) → State → Event → EventKind → RuleFault → Type 0
 Because rules list s e what fault.NotYourTurn = IsOutOfTurn s e.player what
 Because rules list s e what (fault.Play why) = OfPlay what (λ at dir word. play_fault s.board dir at word ≡ Some why)
-Because rules list s e what (fault.WrongScore right) = e.score ≢ right
+Because rules list s e what (fault.WrongScore right) = (e.score ≢ right) × IsScored s e what
 Because rules list s e what (fault.WrongTotal right) = e.total ≢ right
-Because rules list s e what fault.NothingToWithdraw = IsNotAwaited (is_withdraw what) e.player s.latest
+Because rules list s e what fault.NothingToWithdraw =
+    IsNotAwaited (is_withdraw what) e.player s.latest × ((is_withdrawal what ≡ true) ⊎ (interrupts s.latest e.player what ≡ true))
 Because rules list s e what fault.WithdrawnValid =
     (is_withdrawal what ≡ true) × (list_all (is_listed list) (latest_words s.latest) ≡ true) × (is_played s.latest ≡ true)
 Because rules list s e what fault.BonusOnPhony =
     (is_challenge what ≡ true) × (list_any (is_listed list) (latest_words s.latest) ≡ false) × (is_played s.latest ≡ true)
-Because rules list s e what fault.BadBonus = is_challenge what ≡ true
+Because rules list s e what fault.BadBonus = (is_challenge what ≡ true) × IsNoBonus rules list e s.latest
 Because rules list s e what fault.ExchangeRefused = (is_exchange what ≡ true) × (s.bag < rules.exchange_min)
 Because rules list s e what fault.ExchangeSize =
     (is_exchange what ≡ true) × (((side_of s.sides e.player).rack < exchanged what) ⊎ (s.bag < exchanged what))
@@ -125,9 +141,18 @@ unequal a b wrong = λ same. both_ways (int_eq a b) (not-true (int_eq a b) wrong
 differ : (a b : ℕ) → not (a == b) ≡ true → a ≢ b
 differ a b wrong = λ same. both_ways (a == b) (not-true (a == b) wrong) ((Decides-eqb a b).1 same)
 
-score_says : (rules : Rules) (list : List (List ℕ)) (s : State) (e : Event) (what : EventKind) (right : ℤ) → Says (Because rules list s e what) (check_score e.score right)
-score_says rules list s e what right =
-    fails_says (Because rules list s e what) (not (int_eq e.score right)) (fault.WrongScore right) (λ wrong. unequal e.score right wrong)
+score_says : (rules : Rules) (list : List (List ℕ)) (s : State) (e : Event) (what : EventKind) (right : ℤ) → IsScored s e what
+    → Says (Because rules list s e what) (check_score e.score right)
+score_says rules list s e what right scored =
+    fails_says (Because rules list s e what) (not (int_eq e.score right)) (fault.WrongScore right) (λ wrong. (unequal e.score right wrong, scored))
+
+-- a test that does not fail
+not_false : (b : Bool) → not b ≡ false → b ≡ true
+not_false true e = refl
+not_false false e = cc
+
+holds : (test : Bool) (f : RuleFault) → fails (not test) f ≡ None → test ≡ true
+holds test f none = not_false test (test_fails (not test) f none)
 
 total_says : (rules : Rules) (list : List (List ℕ)) (s : State) (e : Event) (what : EventKind) → Says (Because rules list s e what) (check_total s e)
 total_says rules list s e what =
@@ -159,11 +184,11 @@ play_says rules list s e dir at word =
     let numbers = check_score e.score (text_score rules s.board dir at word) ∷ check_total s e ∷ [] in
     let tiles = fails (nat_lt rack used) fault.TooManyUsed ∷ numbers in
     let laid = option_map fault.Play (play_fault s.board dir at word) ∷ tiles in
-    let of_numbers : Says P (first_fault numbers) =
-    first_says P numbers (score_says rules list s e what (text_score rules s.board dir at word), (total_says rules list s e what, tt)) in
+    let of_numbers : play_fault s.board dir at word ≡ None → Says P (first_fault numbers) =
+    λ none. first_says P numbers (score_says rules list s e what (text_score rules s.board dir at word) none, (total_says rules list s e what, tt)) in
     let of_tiles : play_fault s.board dir at word ≡ None → Says P (first_fault tiles) =
     λ none. after_none P (fails (nat_lt rack used) fault.TooManyUsed) numbers
-    (fails_says P (nat_lt rack used) fault.TooManyUsed (λ so. (ltb-true rack used so, none))) (λ _. of_numbers) in
+    (fails_says P (nat_lt rack used) fault.TooManyUsed (λ so. (ltb-true rack used so, none))) (λ _. of_numbers none) in
     let of_laid : Says P (first_fault laid) =
     after_none P (option_map fault.Play (play_fault s.board dir at word)) tiles (play_fault_says P (play_fault s.board dir at word) (λ f is. is))
     (λ none. of_tiles (no_play_fault (play_fault s.board dir at word) none)) in
@@ -184,7 +209,7 @@ pass_says rules list s e =
       (
         turn_says rules list s e kind.Pass refl,
         (
-          score_says rules list s e kind.Pass (pos 0),
+          score_says rules list s e kind.Pass (pos 0) tt,
           (total_says rules list s e kind.Pass, tt),
         ),
       ),
@@ -193,6 +218,16 @@ pass_says rules list s e =
 too_large : (rack bag size : ℕ) → (nat_lt rack size ≡ true) ⊎ (nat_lt bag size ≡ true) → (rack < size) ⊎ (bag < size)
 too_large rack bag size (inl so) = inl (ltb-true rack size so)
 too_large rack bag size (inr so) = inr (ltb-true bag size so)
+
+exchange_scored : (s : State) (e : Event) (what : EventKind) → is_exchange what ≡ true → IsScored s e what
+exchange_scored s e (kind.Play at dir word) is = cc
+exchange_scored s e kind.Pass is = tt
+exchange_scored s e (kind.Exchange tiles) is = tt
+exchange_scored s e (kind.ExchangeUnknown n) is = tt
+exchange_scored s e kind.Withdraw is = tt
+exchange_scored s e kind.Challenge is = tt
+exchange_scored s e kind.Time is = tt
+exchange_scored s e (kind.LastRack tiles) is = cc
 
 exchange_says : (rules : Rules) (list : List (List ℕ)) (s : State) (e : Event) (what : EventKind) → is_exchange what ≡ true → is_last_rack what ≡ false
     → Says (Because rules list s e what) (check_exchange rules s e (exchanged what))
@@ -218,7 +253,7 @@ exchange_says rules list s e what is plain =
           (
             fails_says P large fault.ExchangeSize (λ so. (is, too_large rack s.bag size (or_cases (nat_lt rack size) (nat_lt s.bag size) so))),
             (
-              score_says rules list s e what (pos 0),
+              score_says rules list s e what (pos 0) (exchange_scored s e what is),
               (total_says rules list s e what, tt),
             ),
           ),
@@ -239,18 +274,22 @@ withdraw_says rules list s e (played p) is =
     let valid = list_all (is_listed list) p.words in
     first_says P (fails none fault.NothingToWithdraw ∷ fails valid fault.WithdrawnValid ∷ check_score e.score (neg_ℤ p.score) ∷ check_total s e ∷ []) (
       fails_says P none fault.NothingToWithdraw
-          (λ so. subst (IsNotAwaited true e.player) (sym is) (not_to_take p.stands (same_seat p.player e.player) (or_cases p.stands (not (same_seat p.player e.player)) so))),
+          (λ so. (subst (IsNotAwaited true e.player) (sym is) (not_to_take p.stands (same_seat p.player e.player) (or_cases p.stands (not (same_seat p.player e.player)) so)), inl refl)),
       (
         fails_says P valid fault.WithdrawnValid (λ so. (refl, ap (λ (l : Latest). list_all (is_listed list) (latest_words l)) is ∙ so, ap is_played is)),
         (
-          score_says rules list s e kind.Withdraw (neg_ℤ p.score),
+          score_says rules list s e kind.Withdraw (neg_ℤ p.score) tt,
           (total_says rules list s e kind.Withdraw, tt),
         ),
       ),
     )
 withdraw_says rules list s e (taken_back tiles) is =
-    some_says (Because rules list s e kind.Withdraw) fault.NothingToWithdraw (subst (IsNotAwaited true e.player) (sym is) tt)
-withdraw_says rules list s e other is = some_says (Because rules list s e kind.Withdraw) fault.NothingToWithdraw (subst (IsNotAwaited true e.player) (sym is) tt)
+    some_says (Because rules list s e kind.Withdraw) fault.NothingToWithdraw (subst (IsNotAwaited true e.player) (sym is) tt, inl refl)
+withdraw_says rules list s e other is = some_says (Because rules list s e kind.Withdraw) fault.NothingToWithdraw (subst (IsNotAwaited true e.player) (sym is) tt, inl refl)
+
+no_bonus : (stands own : Bool) (C : Type 0) → (not stands ≡ true) ⊎ (not own ≡ true) → (stands ≡ false) ⊎ ((own ≡ false) ⊎ C)
+no_bonus stands own C (inl so) = inl (not-true stands so)
+no_bonus stands own C (inr so) = inr (inl (not-true own so))
 
 challenge_says : (rules : Rules) (list : List (List ℕ)) (s : State) (e : Event) (latest : Latest) → s.latest ≡ latest
     → Says (Because rules list s e kind.Challenge) (check_challenge rules list s e latest)
@@ -259,19 +298,25 @@ challenge_says rules list s e (played p) is =
     let P = Because rules list s e kind.Challenge in
     let none = not p.stands || not (same_seat p.player e.player) in
     let any = list_any (is_listed list) p.words in
-    let wrong = not (is_bonus rules.challenge_unit (listed_in list p.words) e.score) in
-    first_says P (fails none fault.BadBonus ∷ fails (not any) fault.BonusOnPhony ∷ fails wrong fault.BadBonus ∷ check_total s e ∷ []) (
-      fails_says P none fault.BadBonus (λ _. refl),
-      (
-        fails_says P (not any) fault.BonusOnPhony (λ so. (refl, ap (λ (l : Latest). list_any (is_listed list) (latest_words l)) is ∙ not-true any so, ap is_played is)),
-        (
-          fails_says P wrong fault.BadBonus (λ _. refl),
-          (total_says rules list s e kind.Challenge, tt),
-        ),
-      ),
-    )
-challenge_says rules list s e (taken_back tiles) is = some_says (Because rules list s e kind.Challenge) fault.BadBonus refl
-challenge_says rules list s e other is = some_says (Because rules list s e kind.Challenge) fault.BadBonus refl
+    let same = is_bonus rules.challenge_unit (listed_in list p.words) e.score in
+    let bonus = fails (not same) fault.BadBonus ∷ check_total s e ∷ [] in
+    let phony = fails (not any) fault.BonusOnPhony ∷ bonus in
+    let of_bonus : any ≡ true → Says P (first_fault bonus) =
+    λ some. first_says P bonus
+    (fails_says P (not same) fault.BadBonus (λ so. (refl, subst (IsNoBonus rules list e) (sym is) (inr (inr (some, not-true same so))))), (total_says rules list s e kind.Challenge, tt)) in
+    let of_phony : Says P (first_fault phony) =
+    after_none P (fails (not any) fault.BonusOnPhony) bonus
+    (fails_says P (not any) fault.BonusOnPhony (λ so. (refl, ap (λ (l : Latest). list_any (is_listed list) (latest_words l)) is ∙ not-true any so, ap is_played is)))
+    (λ passed. of_bonus (holds any fault.BonusOnPhony passed)) in
+    after_none P (fails none fault.BadBonus) phony
+    (fails_says P none fault.BadBonus (λ so. (
+      refl,
+      subst (IsNoBonus rules list e) (sym is) (no_bonus p.stands (same_seat p.player e.player)
+          ((any ≡ true) × (same ≡ false)) (or_cases (not p.stands) (not (same_seat p.player e.player)) so)),
+    )))
+    (λ _. of_phony)
+challenge_says rules list s e (taken_back tiles) is = some_says (Because rules list s e kind.Challenge) fault.BadBonus (refl, subst (IsNoBonus rules list e) (sym is) tt)
+challenge_says rules list s e other is = some_says (Because rules list s e kind.Challenge) fault.BadBonus (refl, subst (IsNoBonus rules list e) (sym is) tt)
 
 no_penalty : (a b : Bool) → (not a ≡ true) ⊎ (b ≡ true) → (a ≡ false) ⊎ (b ≡ true)
 no_penalty a b (inl so) = inl (not-true a so)
@@ -332,16 +377,18 @@ due_says rules list s e tiles (Some out) stale is is_stale_is =
     let P = Because rules list s e what in
     let others = not (same_seat out e.player) in
     let size = not (sum tiles == (side_of s.sides (other_seat out)).rack) in
-    first_says P (fails others fault.NotYourTurn ∷ fails size fault.LastRackSize ∷ check_score e.score (pos (2 * points_in rules tiles)) ∷ check_total s e ∷ []) (
-      fails_says P others fault.NotYourTurn (λ so. own_line s e.player tiles out is so),
+    let sized = fails size fault.LastRackSize ∷ check_score e.score (pos (2 * points_in rules tiles)) ∷ check_total s e ∷ [] in
+    let of_sized : same_seat out e.player ≡ true → Says P (first_fault sized) =
+    λ own. first_says P sized (
+      fails_says P size fault.LastRackSize (λ so. other_size s e.player tiles (Some out) is so),
       (
-        fails_says P size fault.LastRackSize (λ so. other_size s e.player tiles (Some out) is so),
-        (
-          score_says rules list s e what (pos (2 * points_in rules tiles)),
-          (total_says rules list s e what, tt),
-        ),
+        score_says rules list s e what (pos (2 * points_in rules tiles))
+            (λ one there. subst (λ (seat : Seat). same_seat seat e.player ≡ true) (same_Some out one (sym is ∙ there)) own),
+        (total_says rules list s e what, tt),
       ),
-    )
+    ) in
+    after_none P (fails others fault.NotYourTurn) sized (fails_says P others fault.NotYourTurn (λ so. own_line s e.player tiles out is so))
+    (λ passed. of_sized (holds (same_seat out e.player) fault.NotYourTurn passed))
 due_says rules list s e tiles None true is is_stale_is =
     let what = kind.LastRack tiles in
     let P = Because rules list s e what in
@@ -352,7 +399,7 @@ due_says rules list s e tiles None true is is_stale_is =
       (
         fails_says P size fault.LastRackSize (λ so. other_size s e.player tiles None is so),
         (
-          score_says rules list s e what (neg_ℤ (pos (points_in rules tiles))),
+          score_says rules list s e what (neg_ℤ (pos (points_in rules tiles))) (λ one there. absurd (some_fault one (sym there ∙ is))),
           (total_says rules list s e what, tt),
         ),
       ),
@@ -397,7 +444,7 @@ because rules list s e why is =
     let P = Because rules list s e e.kind in
     let awaited = interrupts s.latest e.player e.kind in
     first_says P (fails awaited fault.NothingToWithdraw ∷ check_kind rules list s e e.kind ∷ [])
-    (fails_says P awaited fault.NothingToWithdraw (λ so. broken s.latest e.player e.kind so), (kind_says rules list s e e.kind, tt)) why is
+    (fails_says P awaited fault.NothingToWithdraw (λ so. (broken s.latest e.player e.kind so, inr so)), (kind_says rules list s e e.kind, tt)) why is
 
 -- ---- one by one
 
@@ -425,7 +472,39 @@ turns_remaining rules list s e limit turns is same own =
     subst (λ n. n < limit) (sym own) (subst (λ n. s.zero_run < n) (sym same) (because rules list s e fault.NotOver is).1)
 
 pub score_differs : (rules : Rules) (list : List (List ℕ)) (s : State) (e : Event) (right : ℤ) → fault_in rules list s e ≡ Some (fault.WrongScore right) → e.score ≢ right
-score_differs rules list s e right is = because rules list s e (fault.WrongScore right) is
+score_differs rules list s e right is = (because rules list s e (fault.WrongScore right) is).0
+
+scored_play : (s : State) (e : Event) (what : EventKind) → is_play what ≡ true → IsScored s e what → OfPlay what (λ at dir word. play_fault s.board dir at word ≡ None)
+scored_play s e (kind.Play at dir word) is scored = scored
+scored_play s e kind.Pass is scored = cc
+scored_play s e (kind.Exchange tiles) is scored = cc
+scored_play s e (kind.ExchangeUnknown n) is scored = cc
+scored_play s e kind.Withdraw is scored = cc
+scored_play s e kind.Challenge is scored = cc
+scored_play s e kind.Time is scored = cc
+scored_play s e (kind.LastRack tiles) is scored = cc
+
+-- a play whose score is wrong is legal
+pub legal_play : (rules : Rules) (list : List (List ℕ)) (s : State) (e : Event) (right : ℤ) → fault_in rules list s e ≡ Some (fault.WrongScore right) → is_play e.kind ≡ true
+    → OfPlay e.kind (λ at dir word. play_fault s.board dir at word ≡ None)
+legal_play rules list s e right is play = scored_play s e e.kind play (because rules list s e (fault.WrongScore right) is).1
+
+one_seat : (a b : Seat) → same_seat a b ≡ true → a ≡ b
+one_seat First First is = refl
+one_seat First Second is = cc
+one_seat Second First is = cc
+one_seat Second Second is = refl
+
+doubled_for : (out : Option Seat) (player : Seat) → ((one : Seat) → out ≡ Some one → same_seat one player ≡ true) → IsDoubledFor (is_some out) out player
+doubled_for None player own = refl
+doubled_for (Some out) player own = ap Some (one_seat out player (own out refl))
+
+-- the points of a rack are doubled for the player who is out
+pub doubled_of : (rules : Rules) (list : List (List ℕ)) (s : State) (e : Event) (right : ℤ) (tiles : List ℕ) (shown : Bool) → fault_in rules list s e ≡ Some (fault.WrongScore right)
+    → e.kind ≡ kind.LastRack tiles → shown ≡ is_some s.out → IsDoubledFor shown s.out e.player
+doubled_of rules list s e right tiles shown is rack same =
+    subst (λ (b : Bool). IsDoubledFor b s.out e.player) (sym same)
+    (doubled_for s.out e.player (subst (IsScored s e) rack (because rules list s e (fault.WrongScore right) is).1))
 
 pub total_differs : (rules : Rules) (list : List (List ℕ)) (s : State) (e : Event) (right : ℤ) → fault_in rules list s e ≡ Some (fault.WrongTotal right) → e.total ≢ right
 total_differs rules list s e right is = because rules list s e (fault.WrongTotal right) is
@@ -441,7 +520,7 @@ pub is_challenge_of : (rules : Rules) (list : List (List ℕ)) (s : State) (e : 
 is_challenge_of rules list s e is = (because rules list s e fault.BonusOnPhony is).0
 
 pub bonus_of_challenge : (rules : Rules) (list : List (List ℕ)) (s : State) (e : Event) → fault_in rules list s e ≡ Some fault.BadBonus → is_challenge e.kind ≡ true
-bonus_of_challenge rules list s e is = because rules list s e fault.BadBonus is
+bonus_of_challenge rules list s e is = (because rules list s e fault.BadBonus is).0
 
 pub words_unlisted : (rules : Rules) (list : List (List ℕ)) (s : State) (e : Event) (words : List (List ℕ)) → fault_in rules list s e ≡ Some fault.BonusOnPhony
     → words ≡ latest_words s.latest → list_any (is_listed list) words ≡ false

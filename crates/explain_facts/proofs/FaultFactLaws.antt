@@ -1,13 +1,15 @@
 -- That a fault has its fact: what each branch of the code needs for it.
-use Rattle.std.proofs.Common.{◌≡◌, inl, inr, ℕ, suc, ◌+◌, ◌-◌, ◌<◌, ◌==◌, ◌&&◌, ◌||◌, nat_lt, not, Bool, true, false, is_some, List, [], ◌∷◌, length, map, reverse, slice_get, get_or, Option, Some, None, refl, sym, ap, ◌∙◌, subst, arith, if◌then◌else◌}
+use Rattle.std.proofs.Common.{◌≡◌, ◌⊎◌, inl, inr, ℕ, ℤ, pos, negsuc, zero, suc, ◌+◌, ◌-◌, ◌*◌, ◌<◌, ◌==◌, ◌&&◌, ◌||◌, nat_lt, not, Bool, true, false, cond, is_some, List, [], ◌∷◌, ◌++◌, length, map, take, reverse, slice_get, get_or, Option, Some, None, option_map, refl, sym, ap, ◌∙◌, subst, arith, if◌then◌else◌}
 use Rattle.std.specs.List.{list_all, list_any, flat_map, zip, range_with_len}
 use Rattle.std.specs.Option.{unwrap_or}
 use Rattle.std.proofs.lemmas.Bool.{not-true, both_ways, lt-ltb, ltb-true, ltb-false}
 use Rattle.std.proofs.lemmas.Option.{same_Some, slice_get_within, slice_get-get_or, unwrap_or-slice_get}
-use Rattle.std.proofs.lemmas.List.{length-reverse, reverse-append, get_or-reverse}
+use Rattle.std.specs.Prelude.{count_by}
+use Rattle.std.proofs.lemmas.List.Sums.{sum_by-cons}
+use Rattle.std.proofs.lemmas.List.{length-reverse, length-append, length-map, reverse-append, reverse-reverse, get_or-reverse}
 use Rattle.std.proofs.lemmas.List.Folds.{list_any-append}
 use Rattle.first_faults.specs.Checks.{fails, first_fault}
-use Rattle.first_faults.proofs.CheckLaws.{some_fault, check-none, or_none}
+use Rattle.first_faults.proofs.CheckLaws.{some_fault, check-none, none_first, or_none}
 use Rattle.ref_tiles.specs.declared.tiles.Tile.{Tile}
 use Rattle.ref_tiles.specs.declared.symbols.Symbol.{Symbol}
 use Rattle.ref_tiles.specs.declared.symbols.Symbol.TheVariants as symbol
@@ -18,7 +20,8 @@ use Rattle.ref_board.specs.Cells.{tile_at, holds}
 use Rattle.ref_play.specs.declared.placed.Placed.{Placed}
 use Rattle.ref_play.specs.declared.faults.PlayFault.{PlayFault}
 use Rattle.ref_play.specs.declared.faults.PlayFault.TheVariants as play
-use Rattle.ref_play.specs.Formed.{along}
+use Rattle.ref_play.specs.Formed.{along, runs_formed}
+use Rattle.ref_play.specs.Words.{letters_of, words_formed}
 use Rattle.ref_play.specs.Texts.{symbol_fits, tile_of, placed_on, fits_board, text_cells, new_tiles as tiles_on, placement_of, mismatches, is_open_ended, text_fault}
 use Rattle.ref_play.specs.Placements.{with_tiles}
 use Rattle.ref_play.specs.Legality.{overlaps, has_gap, misses_centre, is_too_short, is_apart, fault_of}
@@ -30,15 +33,18 @@ use Rattle.gcg_read.specs.declared.events.EventKind.{EventKind}
 use Rattle.gcg_read.specs.declared.events.EventKind.TheVariants as kind
 use Rattle.game_turns.specs.declared.faults.RuleFault.TheVariants as fault
 use Rattle.game_turns.specs.Seats.{same_seat, side_of}
-use Rattle.game_turns.specs.Standing.{is_withdraw}
-use Rattle.game_turns.specs.Tallies.{State, is_play, is_time, is_last_rack, has_time, latest_event, latest_at, tally}
-use Rattle.game_turns.specs.Checks.{is_over, play_fault, fault_in}
+use Rattle.game_turns.specs.Standing.{is_withdraw, board_at}
+use Rattle.game_turns.specs.Tallies.{State, Latest, is_play, is_time, is_last_rack, has_time, latest_event, latest_at, withdraws, tally}
+use Rattle.game_turns.specs.LatestEvents.{latest_words}
+use Rattle.game_turns.specs.Places.{AreAllowed, fault_of_event, fault_at}
+use Rattle.game_turns.specs.Checks.{is_over, play_fault, text_score, is_bonus, listed_in, check_score, check_total, check_turn, check_play, check_kind, interrupts, fault_in}
+use Rattle.lex_list.specs.Words.{is_listed}
 use Rattle.explain_clues.specs.Texts.{leaves_board, misfits, FitsTo, new_tiles}
 use Rattle.explain_facts.specs.Moments.{last_event}
-use Rattle.explain_facts.specs.Kinds.{OfPlay, OfLastRack}
+use Rattle.explain_facts.specs.Kinds.{OfPlay, OfLastRack, is_withdrawal, is_challenge}
 use Rattle.explain_facts.specs.Totals.{is_time_of}
-use Rattle.explain_facts.specs.Challenges.{where_play}
-use Rattle.explain_facts.proofs.Because.{because, is_played, IsNotAwaited, SaysOfPlay, none_of_play, fails_of_play, either_of_play}
+use Rattle.explain_facts.specs.Challenges.{where_play, is_amount}
+use Rattle.explain_facts.proofs.Because.{because, is_played, IsNotAwaited, IsNoBonus, no_play_fault, SaysOfPlay, none_of_play, fails_of_play, either_of_play}
 
 -- ---- whose turn it is
 
@@ -362,7 +368,239 @@ own_play_before rules list s e past own is adds before same =
     let at = last_play (last_event past) own before in
     let ends = ends_with past own at.0 in
     own_awaits rules (is_withdraw e.kind) e.player own.player own.kind ends.rest at.1 same
-    (subst (IsNotAwaited (is_withdraw e.kind) e.player) (latest_is rules s e past (own ∷ ends.rest) adds ends.is) (because rules list s e fault.NothingToWithdraw is))
+    (subst (IsNotAwaited (is_withdraw e.kind) e.player) (latest_is rules s e past (own ∷ ends.rest) adds ends.is) (because rules list s e fault.NothingToWithdraw is).0)
+
+-- an event that is no withdrawal takes the latest play to stand, so it does not interrupt a withdrawal
+never_interrupts : (rules : Rules) (back : List Event) (player : Seat) (what : EventKind) → interrupts (latest_at rules false back) player what ≡ false
+never_interrupts rules [] player what = refl
+never_interrupts rules (own ∷ back) player what = by own.kind
+  where
+    by : (latest : EventKind) → interrupts (latest_event rules false own.player latest back) player what ≡ false
+    by (kind.Play at dir word) = refl
+    by kind.Pass = refl
+    by (kind.Exchange tiles) = refl
+    by (kind.ExchangeUnknown n) = refl
+    by kind.Withdraw = refl
+    by kind.Challenge = refl
+    by kind.Time = refl
+    by (kind.LastRack tiles) = refl
+
+same_withdrawal : (what : EventKind) → is_withdraw what ≡ is_withdrawal what
+same_withdrawal (kind.Play at dir word) = refl
+same_withdrawal kind.Pass = refl
+same_withdrawal (kind.Exchange tiles) = refl
+same_withdrawal (kind.ExchangeUnknown n) = refl
+same_withdrawal kind.Withdraw = refl
+same_withdrawal kind.Challenge = refl
+same_withdrawal kind.Time = refl
+same_withdrawal (kind.LastRack tiles) = refl
+
+-- so where there is nothing to withdraw, the event is a withdrawal
+pub takes_back : (rules : Rules) (list : List (List ℕ)) (s : State) (e : Event) (past : List Event) → fault_in rules list s e ≡ Some fault.NothingToWithdraw
+    → s ≡ tally rules (is_withdraw e.kind) (reverse past) → is_withdrawal e.kind ≡ false → ⊥
+takes_back rules list s e past is adds plain = by (because rules list s e fault.NothingToWithdraw is).1
+  where
+    latest : s.latest ≡ latest_at rules false (reverse past)
+    latest = latest_is rules s e past (reverse past) adds refl ∙ ap (λ b. latest_at rules b (reverse past)) (same_withdrawal e.kind ∙ plain)
+
+    by : (is_withdrawal e.kind ≡ true) ⊎ (interrupts s.latest e.player e.kind ≡ true) → ⊥
+    by (inl so) = both_ways (is_withdrawal e.kind) plain so
+    by (inr so) =
+        both_ways (interrupts (latest_at rules false (reverse past)) e.player e.kind) (never_interrupts rules (reverse past) e.player e.kind)
+        (subst (λ (l : Latest). interrupts l e.player e.kind ≡ true) latest so)
+
+-- the latest event of a state is a play only if the event before is one
+play_of_latest : (rules : Rules) (taken : Bool) (player : Seat) (what : EventKind) (past : List Event) → is_played (latest_event rules taken player what past) ≡ true → is_play what ≡ true
+play_of_latest rules taken player (kind.Play at dir word) past is = refl
+play_of_latest rules taken player kind.Pass past is = cc
+play_of_latest rules taken player (kind.Exchange tiles) past is = cc
+play_of_latest rules taken player (kind.ExchangeUnknown n) past is = cc
+play_of_latest rules taken player kind.Withdraw past is = cc
+play_of_latest rules taken player kind.Challenge past is = cc
+play_of_latest rules taken player kind.Time past is = cc
+play_of_latest rules taken player (kind.LastRack tiles) past is = cc
+
+not_there : (b : Bool) (e : Event) → (if b then Some e else None) ≡ None → b ≡ false
+not_there true e none = absurd (some_fault e none)
+not_there false e none = refl
+
+pub no_play_before : (rules : Rules) (s : State) (e : Event) (past : List Event) → s ≡ tally rules (is_withdraw e.kind) (reverse past) → where_play (last_event past) ≡ None
+    → is_played s.latest ≡ true → ⊥
+no_play_before rules s e past adds none played = by (last_event past) refl none
+  where
+    by : (latest : Option Event) → last_event past ≡ latest → where_play latest ≡ None → ⊥
+    by None is _ = first_of_all rules s e past adds is played
+    by (Some own) is other =
+        let ends = ends_with past own is in
+        both_ways (is_play own.kind) (not_there (is_play own.kind) own other)
+        (play_of_latest rules (is_withdraw e.kind) own.player own.kind ends.rest
+        (subst (λ (l : Latest). is_played l ≡ true) (latest_is rules s e past (own ∷ ends.rest) adds ends.is) played))
+
+-- ---- the words of the play before
+
+at_end : (past : List Event) (own : Event) → slice_get (past ++ own ∷ []) (length past) ≡ Some own
+at_end [] own = refl
+at_end (e ∷ past) own = at_end past own
+
+before_end : (past : List Event) (own : Event) → take (length past) (past ++ own ∷ []) ≡ past
+before_end [] own = refl
+before_end (e ∷ past) own = ap (λ (es : List Event). e ∷ es) (before_end past own)
+
+-- the last of some events that are allowed
+last_allowed : (rules : Rules) (list : List (List ℕ)) (past : List Event) (own : Event) → AreAllowed rules list (past ++ own ∷ [])
+    → fault_in rules list (tally rules (is_withdraw own.kind) (reverse past)) own ≡ None
+unfolding fault_at
+last_allowed rules list past own allowed =
+    let all = past ++ own ∷ [] in
+    let n = length past in
+    let long = length-append past (own ∷ []) in
+    let below : n < length all = omega (arith, long) in
+    let here = subst (λ (o : Option Event). fault_of_event rules list (tally rules (withdraws o) (reverse (take n all))) o ≡ None) (at_end past own) (allowed n below) in
+    subst (λ (es : List Event). fault_in rules list (tally rules (is_withdraw own.kind) (reverse es)) own ≡ None) (before_end past own) here
+
+legal_of_play : (rules : Rules) (s : State) (e : Event) (dir : Dir) (at : ℕ) (word : List Symbol) → check_play rules s e dir at word ≡ None → play_fault s.board dir at word ≡ None
+unfolding check_play
+legal_of_play rules s e dir at word none =
+    let numbers = check_score e.score (text_score rules s.board dir at word) ∷ check_total s e ∷ [] in
+    let tiles = fails (nat_lt (side_of s.sides e.player).rack (length (placement_of s.board dir at word))) fault.TooManyUsed ∷ numbers in
+    let laid = option_map fault.Play (play_fault s.board dir at word) ∷ tiles in
+    no_play_fault (play_fault s.board dir at word)
+    (none_first (option_map fault.Play (play_fault s.board dir at word)) tiles
+    (none_first (check_turn s e) laid (none_first (fails (is_over s) fault.GameOver) (check_turn s e ∷ laid) none).1).1).0
+
+some_runs : (board : List (Option Tile)) (dir : Dir) (at : ℕ) (word : List Symbol) → play_fault board dir at word ≡ None
+    → is_too_short dir (with_tiles board (placement_of board dir at word)) (placement_of board dir at word) ≡ false
+unfolding play_fault fault_of
+some_runs board dir at word none =
+    let ps = placement_of board dir at word in
+    let apart = fails (is_apart board ps) play.Apart ∷ [] in
+    let short = fails (is_too_short dir (with_tiles board ps) ps) play.TooShort ∷ apart in
+    let centre = fails (misses_centre board ps) play.MissesCentre ∷ short in
+    let gap = fails (has_gap dir (with_tiles board ps) ps) play.NotWhole ∷ centre in
+    let placed = (or_none (text_fault board dir at word) (fault_of dir board ps) none).1 in
+    let on = (check-none (overlaps board ps) play.Mismatch gap placed).1 in
+    let whole = (check-none (has_gap dir (with_tiles board ps) ps) play.NotWhole centre on).1 in
+    let covers = (check-none (misses_centre board ps) play.MissesCentre short whole).1 in
+    (check-none (is_too_short dir (with_tiles board ps) ps) play.TooShort apart covers).0
+
+pub not_zero : (n : ℕ) → (n == 0) ≡ false → 0 < n
+not_zero zero e = cc
+not_zero (suc n) e = omega arith
+
+-- a legal play forms a word
+some_formed : (board : List (Option Tile)) (dir : Dir) (at : ℕ) (word : List Symbol) → play_fault board dir at word ≡ None
+    → 0 < length (words_formed dir board (placement_of board dir at word))
+unfolding is_too_short words_formed
+some_formed board dir at word none =
+    let ps = placement_of board dir at word in
+    let after = with_tiles board ps in
+    let some = not_zero (length (runs_formed dir after ps)) (some_runs board dir at word none) in
+    subst (λ n. 0 < n) (sym (length-map (runs_formed dir after ps) (letters_of after))) some
+
+formed_by : (rules : Rules) (list : List (List ℕ)) (taken : Bool) (own : Event) (past : List Event) (what : EventKind) → own.kind ≡ what → is_play what ≡ true
+    → fault_in rules list (tally rules (is_withdraw own.kind) past) own ≡ None → 0 < length (latest_words (latest_event rules taken own.player what past))
+unfolding fault_in tally
+formed_by rules list taken own past (kind.Play at dir word) kind_is is none =
+    let s = tally rules (is_withdraw own.kind) past in
+    let all = check_kind rules list s own own.kind ∷ [] in
+    let of_kind = (none_first (check_kind rules list s own own.kind) [] (none_first (fails (interrupts s.latest own.player own.kind) fault.NothingToWithdraw) all none).1).0 in
+    let checked = subst (λ (k : EventKind). check_kind rules list (tally rules (is_withdraw k) past) own k ≡ None) kind_is of_kind in
+    some_formed (board_at false past) dir at word (legal_of_play rules (tally rules false past) own dir at word checked)
+formed_by rules list taken own past kind.Pass kind_is is none = cc
+formed_by rules list taken own past (kind.Exchange tiles) kind_is is none = cc
+formed_by rules list taken own past (kind.ExchangeUnknown n) kind_is is none = cc
+formed_by rules list taken own past kind.Withdraw kind_is is none = cc
+formed_by rules list taken own past kind.Challenge kind_is is none = cc
+formed_by rules list taken own past kind.Time kind_is is none = cc
+formed_by rules list taken own past (kind.LastRack tiles) kind_is is none = cc
+
+-- so the latest play of a state has words, if the rules allow it
+pub some_words : (rules : Rules) (list : List (List ℕ)) (s : State) (e : Event) (past : List Event) (own : Event) → s ≡ tally rules (is_withdraw e.kind) (reverse past)
+    → AreAllowed rules list past → where_play (last_event past) ≡ Some own → 0 < length (latest_words s.latest)
+some_words rules list s e past own adds allowed before =
+    let at = last_play (last_event past) own before in
+    let ends = ends_with past own at.0 in
+    let whole : past ≡ reverse ends.rest ++ own ∷ [] = sym (reverse-reverse past) ∙ ap (λ (es : List Event). reverse es) ends.is ∙ reverse-append (own ∷ []) ends.rest in
+    let last = last_allowed rules list (reverse ends.rest) own (subst (AreAllowed rules list) whole allowed) in
+    let same = subst (λ (es : List Event). fault_in rules list (tally rules (is_withdraw own.kind) es) own ≡ None) (reverse-reverse ends.rest) last in
+    subst (λ (l : Latest). 0 < length (latest_words l)) (sym (latest_is rules s e past (own ∷ ends.rest) adds ends.is))
+    (formed_by rules list (is_withdraw e.kind) own ends.rest own.kind refl at.1 same)
+
+-- ---- the bonus of a challenge
+
+one_counted : (b rest : Bool) (n : ℕ) → (b || rest) ≡ true → (rest ≡ true → 0 < n) → 0 < cond b 1 0 + n
+one_counted true rest n e more = omega arith
+one_counted false rest n e more = let some = more e in omega (arith, some)
+
+some_counted : {X : Type 0} (test : X → Bool) (xs : List X) → list_any test xs ≡ true → 0 < count_by test xs
+some_counted test [] e = cc
+some_counted test (x ∷ xs) e =
+    subst (λ n. 0 < n) (sym (sum_by-cons (λ y. cond (test y) 1 0) x xs)) (one_counted (test x) (list_any test xs) (count_by test xs) e (some_counted test xs))
+
+-- some word of the latest play is listed, and the bonus is none of those that are allowed
+abbrev IsOtherBonus : Rules → (list : List (List ℕ)) → Event → Latest → Type 0
+IsOtherBonus rules list e latest =
+    (list_any (is_listed list) (latest_words latest) ≡ true) × (is_bonus rules.challenge_unit (listed_in list (latest_words latest)) e.score ≡ false)
+
+other_bonus : (rules : Rules) (list : List (List ℕ)) (e : Event) (taken : Bool) (own : Seat) (what : EventKind) (past : List Event) → taken ≡ false → is_play what ≡ true
+    → same_seat own e.player ≡ true → IsNoBonus rules list e (latest_event rules taken own what past) → IsOtherBonus rules list e (latest_event rules taken own what past)
+other_bonus rules list e taken own (kind.Play at dir word) past off is same (inl waits) = absurd (both_ways (not taken) waits (ap not off))
+other_bonus rules list e taken own (kind.Play at dir word) past off is same (inr (inl others)) = absurd (both_ways (same_seat own e.player) others same)
+other_bonus rules list e taken own (kind.Play at dir word) past off is same (inr (inr due)) = due
+other_bonus rules list e taken own kind.Pass past off is same reported = cc
+other_bonus rules list e taken own (kind.Exchange tiles) past off is same reported = cc
+other_bonus rules list e taken own (kind.ExchangeUnknown n) past off is same reported = cc
+other_bonus rules list e taken own kind.Withdraw past off is same reported = cc
+other_bonus rules list e taken own kind.Challenge past off is same reported = cc
+other_bonus rules list e taken own kind.Time past off is same reported = cc
+other_bonus rules list e taken own (kind.LastRack tiles) past off is same reported = cc
+
+challenge_stays : (what : EventKind) → is_challenge what ≡ true → is_withdraw what ≡ false
+challenge_stays (kind.Play at dir word) is = cc
+challenge_stays kind.Pass is = cc
+challenge_stays (kind.Exchange tiles) is = cc
+challenge_stays (kind.ExchangeUnknown n) is = cc
+challenge_stays kind.Withdraw is = cc
+challenge_stays kind.Challenge is = refl
+challenge_stays kind.Time is = cc
+challenge_stays (kind.LastRack tiles) is = cc
+
+bonus_is_other : (rules : Rules) (list : List (List ℕ)) (s : State) (e : Event) (past : List Event) (own : Event) → fault_in rules list s e ≡ Some fault.BadBonus
+    → s ≡ tally rules (is_withdraw e.kind) (reverse past) → where_play (last_event past) ≡ Some own → same_seat own.player e.player ≡ true → IsOtherBonus rules list e s.latest
+bonus_is_other rules list s e past own is adds before same =
+    let at = last_play (last_event past) own before in
+    let ends = ends_with past own at.0 in
+    let latest = latest_is rules s e past (own ∷ ends.rest) adds ends.is in
+    let why = because rules list s e fault.BadBonus is in
+    subst (IsOtherBonus rules list e) (sym latest)
+    (other_bonus rules list e (is_withdraw e.kind) own.player own.kind ends.rest (challenge_stays e.kind why.0) at.1 same (subst (IsNoBonus rules list e) latest why.1))
+
+-- a bonus has an amount
+pub some_amount : (rules : Rules) (list : List (List ℕ)) (s : State) (e : Event) (past : List Event) (own : Event) → fault_in rules list s e ≡ Some fault.BadBonus
+    → s ≡ tally rules (is_withdraw e.kind) (reverse past) → where_play (last_event past) ≡ Some own → same_seat own.player e.player ≡ true
+    → 0 < listed_in list (latest_words s.latest)
+some_amount rules list s e past own is adds before same =
+    some_counted (is_listed list) (latest_words s.latest) (bonus_is_other rules list s e past own is adds before same).0
+
+any_mapped : {X Y : Type 0} (test : Y → Bool) (f : X → Y) (xs : List X) → list_any test (map f xs) ≡ list_any (λ x. test (f x)) xs
+any_mapped test f [] = refl
+any_mapped test f (x ∷ xs) = ap (λ b. test (f x) || b) (any_mapped test f xs)
+
+none_among : (unit words : ℕ) (score : ℤ) → is_bonus unit words score ≡ false → list_any (is_amount score) (map (λ n. unit * n) (range_with_len 1 words)) ≡ false
+unfolding is_bonus
+none_among unit words (pos points) none = any_mapped (is_amount (pos points)) (λ n. unit * n) (range_with_len 1 words) ∙ none
+none_among unit words (negsuc k) none = any_mapped (is_amount (negsuc k)) (λ n. unit * n) (range_with_len 1 words) ∙ none_of (range_with_len 1 words)
+  where
+    none_of : (ns : List ℕ) → list_any (λ n. is_amount (negsuc k) (unit * n)) ns ≡ false
+    none_of [] = refl
+    none_of (n ∷ ns) = none_of ns
+
+-- and the written one is none of them
+pub no_amount : (rules : Rules) (list : List (List ℕ)) (s : State) (e : Event) (past : List Event) (own : Event) → fault_in rules list s e ≡ Some fault.BadBonus
+    → s ≡ tally rules (is_withdraw e.kind) (reverse past) → where_play (last_event past) ≡ Some own → same_seat own.player e.player ≡ true
+    → list_any (is_amount e.score) (map (λ n. rules.challenge_unit * n) (range_with_len 1 (listed_in list (latest_words s.latest)))) ≡ false
+no_amount rules list s e past own is adds before same =
+    none_among rules.challenge_unit (listed_in list (latest_words s.latest)) e.score (bonus_is_other rules list s e past own is adds before same).1
 
 pub valid_is_play : (rules : Rules) (list : List (List ℕ)) (s : State) (e : Event) → fault_in rules list s e ≡ Some fault.WithdrawnValid → is_played s.latest ≡ true
 valid_is_play rules list s e is = (because rules list s e fault.WithdrawnValid is).2

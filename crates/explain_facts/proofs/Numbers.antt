@@ -1,10 +1,10 @@
 -- The right score and the right total of an event that is refused for one of them.
-use Rattle.std.proofs.Common.{◌≡◌, ◌≢◌, ℕ, ℤ, Bool, true, false, not, List, Option, Some, None, refl, sym, ap, ◌∙◌}
+use Rattle.std.proofs.Common.{◌≡◌, ◌≢◌, ℕ, ℤ, pos, Bool, true, false, not, List, Option, Some, None, refl, sym, ap, ◌∙◌}
 use Rattle.std.specs.Prelude.{◌+ℤ◌, ◌-ℤ◌}
 use Rattle.std.specs.Option.{option_or}
 use Rattle.std.specs.Ordering.{int_eq}
 use Rattle.std.proofs.lemmas.Option.{same_Some}
-use Rattle.std.proofs.Math.IntN.{+ℤ_comm, -ℤ-+ℤ_cancel, +ℤ-neg_ℤ_cancel}
+use Rattle.std.proofs.Math.IntN.{+ℤ_comm, +ℤ_idl, -ℤ-+ℤ_cancel, +ℤ-neg_ℤ_cancel}
 use Rattle.first_faults.specs.Checks.{fails}
 use Rattle.first_faults.proofs.CheckLaws.{some_fault}
 use Rattle.ref_tiles.specs.declared.rulebook.Rules.{Rules}
@@ -109,6 +109,11 @@ remaining_own had score right written is lacks =
 -- a total that lacks some score is right with it
 pub remaining_one : (had own score right written : ℤ) → right ≡ had +ℤ own → score ≡ right -ℤ written → written +ℤ score ≡ had +ℤ own
 remaining_one had own score right written is lacks = back right written score lacks ∙ is
+
+-- a total that is not the right one lacks some score
+pub lacks_some : (right written score : ℤ) → written ≢ right → score ≡ right -ℤ written → score ≢ pos 0
+lacks_some right written score wrong lacks =
+    λ none. wrong (sym (+ℤ_idl written) ∙ +ℤ_comm (pos 0) written ∙ ap (λ n. written +ℤ n) (sym none) ∙ back right written score lacks)
 
 -- two numbers that differ, as they are shown
 pub unlike : (right shown written reported : ℤ) → written ≢ right → shown ≡ right → reported ≡ written → shown ≢ reported

@@ -1,5 +1,5 @@
 -- Where a text has the written score.
-use Rattle.std.proofs.Common.{◌≡◌, ℕ, ℤ, Bool, true, false, List, [], ◌∷◌, All, take, zero, suc, Option, Some, None, is_none, Decides, refl, sym, ◌∙◌, subst}
+use Rattle.std.proofs.Common.{◌≡◌, ℕ, ℤ, Bool, true, false, List, [], ◌∷◌, All, ◌<◌, arith, length, take, zero, suc, Option, Some, None, is_none, Decides, refl, sym, ◌∙◌, subst}
 use Rattle.std.specs.Prelude.{filter}
 use Rattle.std.proofs.lemmas.List.Elements.{All-append, All-cons, All-nil, All-head, All-tail}
 use Rattle.ref_tiles.specs.declared.tiles.Tile.{Tile}
@@ -81,6 +81,11 @@ pub all_stand : (m : Moment) (word : List Symbol) (named : List Spot) → named 
 all_stand m word named is_named =
     subst (λ (spots : List Spot). All (λ spot. stands_at m word spot ≡ true) spots) (sym is_named)
     (first_of (λ spot. stands_at m word spot ≡ true) 3 (places m word) (all_places (λ spot. stands_at m word spot ≡ true) m word (all_standing m word)))
+
+-- if a list has an element, the first three of it have one
+pub some_named : (all named : List Spot) → 0 < length all → named ≡ take 3 all → 0 < length named
+some_named [] named some is = absurd (omega (arith, some))
+some_named (spot ∷ spots) named some is = subst (λ (these : List Spot). 0 < length these) (sym is) (omega arith)
 
 -- ---- whether the rules allow every event
 

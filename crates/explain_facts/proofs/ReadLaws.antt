@@ -18,7 +18,7 @@ use Rattle.explain_facts.specs.declared.facts.Fact.TheVariants as fact
 use Rattle.explain_facts.specs.declared.facts.readings.ReadingFact.TheVariants as reading_fact
 use Rattle.explain_facts.specs.Moments.{Moment}
 use Rattle.explain_facts.specs.Facts.{IsTrue}
-use Rattle.explain_facts.specs.Readings.{swapped, with_symbol, IsOnRack, IsReadAs, IsSwapped, IsMisread}
+use Rattle.explain_facts.specs.Readings.{swapped, AreTwoTiles, with_symbol, IsOnRack, IsReadAs, IsSwapped, IsMisread}
 use Rattle.explain_facts.proofs.Plays.{of_play}
 
 -- the score of the tiles that a text puts down is that of the text
@@ -31,8 +31,8 @@ scored rules board dir at text ps score tiles is = is ∙ ap (λ (qs : List Plac
 pub read_as : (m : Moment) (board : List (Option Tile)) (at : ℕ) (dir : Dir) (word text : List Symbol) (place : ℕ) (symbol other : Symbol) (ps : List Placed) (square stood read : ℕ) (score : ℤ)
     → board ≡ m.before.board → slice_get word place ≡ Some symbol → square ≡ along dir at place → stood ≡ byte_of symbol → read ≡ byte_of other
     → text ≡ with_symbol word place other → play_fault board dir at text ≡ None → ps ≡ placement_of board dir at text → score ≡ pos (score_of m.rules board ps)
-    → IsReadAs m at dir word place symbol other square stood read score
-read_as m board at dir word text place symbol other ps square stood read score there stands on_square was reads same legal tiles is =
+    → AreTwoTiles symbol other → IsReadAs m at dir word place symbol other square stood read score
+read_as m board at dir word text place symbol other ps square stood read score there stands on_square was reads same legal tiles is two =
     let P : List Symbol → Type 0 = λ (t : List Symbol). play_fault m.before.board dir at t ≡ None in
     let Q : List (Option Tile) → Type 0 = λ (b : List (Option Tile)). play_fault b dir at text ≡ None in
     let scores = scored m.rules board dir at text ps score tiles is in
@@ -44,6 +44,7 @@ read_as m board at dir word text place symbol other ps square stood read score t
       legal = subst P same (subst Q there legal);
       scores =
           scores ∙ ap (λ (b : List (Option Tile)). text_score m.rules b dir at text) there ∙ ap (λ (t : List Symbol). text_score m.rules m.before.board dir at t) same;
+      tiles = two;
     }
 
 -- a letter as a blank, or a blank as a letter, by the written score

@@ -1,5 +1,5 @@
 -- Up to where a deal gives the racks that are shown, and what cannot be dealt, by the steps of a game.
-use Rattle.std.specs.Prelude.{◌≡◌, ◌⊎◌, ℕ, ◌+◌, ◌-◌, ◌<◌, ◌==◌, List, [], ◌∷◌, ◌++◌, sum, take, slice_get, Some, IfSome, if◌then◌else◌}
+use Rattle.std.specs.Prelude.{◌≡◌, ◌⊎◌, ℕ, ◌+◌, ◌-◌, ◌<◌, ◌==◌, List, [], ◌∷◌, ◌++◌, sum, take, slice_get, Some, None, IfSome, if◌then◌else◌}
 use Rattle.std.specs.List.{flat_map}
 use Rattle.ref_tiles.specs.declared.rulebook.Rules.{Rules}
 use Rattle.ref_tiles.specs.Counting.{no_tiles, IsContainedIn}
@@ -9,6 +9,7 @@ use Rattle.deal_steps.specs.declared.steps.Act.{Act}
 use Rattle.deal_steps.specs.declared.steps.Act.TheVariants as act
 use Rattle.deal_steps.specs.declared.steps.Step.{Step}
 use Rattle.deal_steps.specs.declared.deals.Held.{Held}
+use Rattle.deal_steps.specs.Bounds.{first_bound}
 use Rattle.deal_steps.specs.Fitting.{Fits}
 use Rattle.deal_cuts.specs.Cutting.{HasNoDeal}
 use Rattle.explain_facts.specs.declared.facts.deals.DealFact.{DealFact}
@@ -98,10 +99,10 @@ pub record IsDealtTo (rules : Rules) (steps : List Step) (place line : ℕ) : Ty
   pub racks : List Held
   pub fit : Fits rules (take place steps) racks
 
--- What each fact about deals says is true of the steps up to the one at a place. Where it says that no deal gives the racks, there is none, and a clash
--- that it names is one.
+-- What each fact about deals says is true of the steps up to the one at a place. Where it says that no deal gives the racks, though no single line shows
+-- too much, there is none, and no line exceeds a bound; and a clash that it names is one.
 abbrev pub IsDealTrue : Rules → List Step → (place : ℕ) → DealFact → Type 0
 IsDealTrue rules steps place (deal_fact.DealtTo line) = IsDealtTo rules steps place line
 IsDealTrue rules steps place (deal_fact.NoDeal clash exchanges) =
     HasNoDeal rules (take (place + 1) steps) × AreExchanges steps place exchanges.items
-    × IfSome clash (λ lines. IsClash rules (take (place + 1) steps) lines.items)
+    × IfSome clash (λ lines. IsClash rules (take (place + 1) steps) lines.items) × (first_bound rules (take (place + 1) steps) ≡ None)

@@ -1,11 +1,12 @@
 -- Which fact says why the rules refuse an event.
-use Rattle.std.specs.Prelude.{◌≡◌, ◌&&◌, ◌||◌, Bool, true, false, List, [], ◌∷◌, Option, Some, None, reverse}
+use Rattle.std.specs.Prelude.{◌≡◌, ◌==◌, ◌&&◌, ◌||◌, ℕ, Bool, true, false, List, [], ◌∷◌, Option, Some, None, slice_get, take, reverse}
 use Rattle.ref_play.specs.declared.faults.PlayFault.{PlayFault}
 use Rattle.ref_play.specs.declared.faults.PlayFault.TheVariants as play
 use Rattle.game_turns.specs.declared.faults.RuleFault.{RuleFault}
 use Rattle.game_turns.specs.declared.faults.RuleFault.TheVariants as fault
 use Rattle.game_turns.specs.Standing.{is_withdraw}
 use Rattle.game_turns.specs.Tallies.{tally}
+use Rattle.game_turns.specs.Places.{AreAllowed}
 use Rattle.explain_facts.specs.declared.facts.Fact.{Fact}
 use Rattle.explain_facts.specs.declared.facts.Fact.TheVariants as fact
 use Rattle.explain_facts.specs.declared.facts.turns.TurnFact.TheVariants as turn_fact
@@ -14,6 +15,14 @@ use Rattle.explain_facts.specs.declared.facts.scores.ScoreFact.TheVariants as sc
 use Rattle.explain_facts.specs.declared.facts.totals.TotalFact.TheVariants as total_fact
 use Rattle.explain_facts.specs.declared.facts.challenges.ChallengeFact.TheVariants as challenge_fact
 use Rattle.explain_facts.specs.declared.facts.tiles.TileFact.TheVariants as tile_fact
+use Rattle.explain_facts.specs.declared.facts.racks.RackFact.TheVariants as rack_fact
+use Rattle.ref_tiles.specs.declared.rulebook.Rules.{Rules}
+use Rattle.ref_tiles.specs.declared.kinds.Kind.{Kind}
+use Rattle.ref_tiles.specs.Kinds.{number_of}
+use Rattle.deal_steps.specs.declared.steps.Step.{Step}
+use Rattle.deal_steps.specs.declared.faults.DealBound.{DealBound}
+use Rattle.deal_steps.specs.declared.faults.DealBound.TheVariants as bound
+use Rattle.deal_steps.specs.Bounds.{bound_at, first_bound}
 use Rattle.explain_facts.specs.Moments.{Moment}
 
 -- ---- facts of one kind
@@ -132,6 +141,16 @@ is_end_tile (fact.Play (play_fact.TileBefore square letter)) = true
 is_end_tile (fact.Play (play_fact.TileAfter square letter)) = true
 is_end_tile other = false
 
+-- a rack that would have to hold too many tiles
+abbrev pub is_of_big_rack : Fact → Bool
+is_of_big_rack (fact.Rack (rack_fact.TooBig player size tiles lines)) = true
+is_of_big_rack other = false
+
+-- a kind of which there would have to be more than the game has
+abbrev pub is_of_short_kind : Kind → Fact → Bool
+is_of_short_kind kind (fact.Rack (rack_fact.TilesShort short all many laid first second lines)) = number_of short == number_of kind
+is_of_short_kind kind other = false
+
 -- ---- the fact of a fault
 
 -- whether a fact says this fault of the text or the placement of a play
@@ -183,6 +202,23 @@ abbrev pub says : RuleFault → Option Fact → Bool
 says why None = false
 says why (Some said) = is_fact_of why said
 
--- the state of a moment is what the events before it add up to
+-- whether a fact says that this bound is exceeded
+abbrev pub is_fact_of_bound : DealBound → Fact → Bool
+is_fact_of_bound (bound.RackTooBig line) said = is_of_big_rack said
+is_fact_of_bound (bound.TilesShort line kind) said = is_of_short_kind kind said
+
+-- there is a fact, and it says that this bound is exceeded
+abbrev pub says_bound : DealBound → Option Fact → Bool
+says_bound exceeded None = false
+says_bound exceeded (Some said) = is_fact_of_bound exceeded said
+
+-- the first bound that steps exceed is exceeded at a place
+pub record IsFirstBoundAt (rules : Rules) (steps : List Step) (place : ℕ) (exceeded : DealBound) : Type 0 where
+  pub step : Step
+  pub there : slice_get steps place ≡ Some step
+  pub before : first_bound rules (take place steps) ≡ None
+  pub exceeds : bound_at rules step (reverse (take place steps)) ≡ Some exceeded
+
+-- the rules allow the events before a moment, and its state is what these add up to
 abbrev pub IsTallied : Moment → Type 0
-IsTallied m = m.before ≡ tally m.rules (is_withdraw m.event.kind) (reverse m.past)
+IsTallied m = (m.before ≡ tally m.rules (is_withdraw m.event.kind) (reverse m.past)) × AreAllowed m.rules m.list m.past

@@ -1,5 +1,5 @@
 -- Lines that are written twice, in the wrong order or under the wrong name, and missing lines.
-use Rattle.std.specs.Prelude.{◌≡◌, ℕ, ℤ, ◌+◌, ◌+ℤ◌, Bool, ◌∷◌, ◌++◌, length, drop, find, slice_get, Some}
+use Rattle.std.specs.Prelude.{◌≡◌, ℕ, ℤ, ◌+◌, ◌+ℤ◌, ◌≤ℤ◌, pos, Bool, ◌∷◌, ◌++◌, length, drop, find, slice_get, Some}
 use Rattle.gcg_read.specs.declared.events.Seat.{Seat}
 use Rattle.gcg_read.specs.declared.events.Event.{Event}
 use Rattle.gcg_read.specs.Players.{same_seat, other_seat}
@@ -31,7 +31,7 @@ is_of player e = same_seat e.player player
 
 -- The total of the event is right, and the other player's next total is `score` more than what that player had plus the score on
 -- that line: as if a line of the other player with these points were missing, after the line before and before that of the event. No
--- points are those of a pass or of an exchange.
+-- points are those of a pass or of an exchange, and no line scores less.
 pub record IsMissing (m : Moment) (player : Seat) (score : ℤ) (before after : ℕ) : Type 0 where
   pub other : player ≡ other_seat m.event.player
   pub right : m.event.total ≡ total_after m.before m.event
@@ -42,6 +42,7 @@ pub record IsMissing (m : Moment) (player : Seat) (score : ℤ) (before after : 
   pub next : Event
   pub found : find (is_of player) m.later ≡ Some next
   pub lacks : next.total ≡ ((side_of m.before.sides player).total +ℤ score) +ℤ next.score
+  pub gains : pos 0 ≤ℤ score
 
 -- as a line of the other player, the rules allow the event
 pub record IsOthers (m : Moment) (other : Seat) : Type 0 where

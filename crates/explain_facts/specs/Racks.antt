@@ -1,10 +1,11 @@
 -- What is true of racks that cannot be dealt, by the steps of a game.
-use Rattle.std.specs.Prelude.{◌≡◌, ℕ, ◌+◌, ◌-◌, ◌<◌, ◌==◌, ◌&&◌, ◌||◌, not, Bool, true, List, [], ◌∷◌, ◌++◌, length, sum, take, reverse, slice_get, Option, Some, None, if◌then◌else◌}
+use Rattle.std.specs.Prelude.{◌≡◌, ℕ, ◌+◌, ◌-◌, ◌<◌, ◌==◌, ◌&&◌, ◌||◌, not, Bool, true, List, [], ◌∷◌, ◌++◌, length, sum, sum_by, take, reverse, slice_get, Option, Some, None, if◌then◌else◌}
 use Rattle.std.specs.List.{list_any}
 use Rattle.ref_tiles.specs.declared.rulebook.Rules.{Rules}
 use Rattle.ref_tiles.specs.declared.kinds.Kind.{Kind}
 use Rattle.ref_tiles.specs.Counting.{no_tiles, count_of}
 use Rattle.gcg_read.specs.declared.events.Seat.{Seat}
+use Rattle.gcg_read.specs.declared.events.Seat.TheVariants.{First, Second}
 use Rattle.deal_steps.specs.declared.steps.Motion.{Motion}
 use Rattle.deal_steps.specs.declared.steps.Motion.TheVariants as motion
 use Rattle.deal_steps.specs.declared.steps.Act.{Act}
@@ -67,12 +68,20 @@ abbrev pub rack_lines : Seat → (past : List Step) → List RackLine
 rack_lines seat [] = []
 rack_lines seat (s ∷ past) = if ends_epoch seat s then [] else rack_lines seat past ++ rack_line seat s
 
--- What some lines together show that a rack must hold at the last of them, if it had these tiles before the first: from line to
--- line, for each kind the greater of what was there and what the line shows, and then what leaves is taken off.
-abbrev pub together : (known : List ℕ) → List RackLine → List ℕ
+-- What some lines leave on a rack after the last of them, if it had these tiles before the first: from line to line, for each kind
+-- the greater of what was there and what the line shows, less what leaves.
+abbrev pub remaining_after : (known : List ℕ) → List RackLine → List ℕ
+remaining_after known [] = known
+remaining_after known (l ∷ lines) = remaining_after (without (greater known l.shown) (remaining_by l.leaves)) lines
+
+-- What a rack must hold at a step, if it had these tiles before: for each kind no fewer than the step's own line shows, if it shows some.
+abbrev pub together : (known : List ℕ) → (own : List RackLine) → List ℕ
 together known [] = known
-together known (l ∷ []) = greater known l.shown
-together known (l ∷ m ∷ lines) = together (without (greater known l.shown) (remaining_by l.leaves)) (m ∷ lines)
+together known (l ∷ lines) = greater known l.shown
+
+-- what the lines up to a step, after a past, together show that a player's rack must hold at it
+abbrev pub held_at : Seat → (past : List Step) → Step → List ℕ
+held_at seat past s = together (remaining_after no_tiles (rack_lines seat past)) (rack_line seat s)
 
 -- A rack would have to hold more tiles than it has: the tiles that the lines together show, which, plus those that left it, are as
 -- many as the game's moments up to the step have shown.
@@ -83,13 +92,8 @@ pub record IsTooBig (steps : List Step) (place : ℕ) (player : Seat) (size : �
   pub has : size ≡ size_of step player
   pub lines_are : lines ≡ rack_lines player (reverse (take place steps)) ++ rack_line player step
   pub shown : joined tiles (gone player (reverse (take place steps))) ≡ low_at player step (reverse (take place steps))
-  pub adds_up : tiles ≡ together no_tiles lines
+  pub adds_up : tiles ≡ held_at player (reverse (take place steps)) step
   pub more : size < sum tiles
-
--- What some lines leave on a rack after the last of them, if it had these tiles before the first.
-abbrev pub remaining_after : (known : List ℕ) → List RackLine → List ℕ
-remaining_after known [] = known
-remaining_after known (l ∷ lines) = remaining_after (without (greater known l.shown) (remaining_by l.leaves)) lines
 
 -- the last of some lines
 abbrev pub last_line : List RackLine → Option RackLine
@@ -142,7 +146,12 @@ abbrev pub kind_lines : Kind → List Step → List KindLine
 kind_lines kind [] = []
 kind_lines kind (s ∷ later) = kind_line kind (not (list_any (ends_epoch (holder_of s)) (s ∷ later))) s ++ kind_lines kind later
 
--- There would have to be more tiles of a kind than the game has: on the board, and on both racks by what is shown at the step.
+-- the number of tiles of a kind that lines play
+abbrev pub played_in : List KindLine → ℕ
+played_in lines = sum_by (λ (l : KindLine). l.played) lines
+
+-- There would have to be more tiles of a kind than the game has: on the board those that the lines before the step play, and on each rack those
+-- that its lines together show at the step.
 pub record IsShort (rules : Rules) (steps : List Step) (place : ℕ) (kind : Kind) (all many laid first second : ℕ) (lines : List KindLine) : Type 0 where
   pub step : Step
   pub there : slice_get steps place ≡ Some step
@@ -155,6 +164,9 @@ pub record IsShort (rules : Rules) (steps : List Step) (place : ℕ) (kind : Kin
   pub adds_up : many ≡ laid + first + second
   pub more : all < many
   pub lines_are : lines ≡ kind_lines kind (take place steps) ++ kind_line kind true step
+  pub laid_by_lines : laid ≡ played_in (kind_lines kind (take place steps))
+  pub first_by_lines : first ≡ count_of (held_at First (reverse (take place steps)) step) kind
+  pub second_by_lines : second ≡ count_of (held_at Second (reverse (take place steps)) step) kind
 
 -- ---- each fact
 

@@ -1,5 +1,5 @@
 -- The same play with another tile in one place: what was played if a tile was read or written wrongly.
-use Rattle.std.specs.Prelude.{◌≡◌, ℕ, ℤ, ◌<◌, ◌≤◌, true, List, slice_get, slice_index, slice_set, Some, None}
+use Rattle.std.specs.Prelude.{◌≡◌, ◌≢◌, ℕ, ℤ, ◌<◌, ◌≤◌, Bool, true, false, List, slice_get, slice_index, slice_set, Some, None}
 use Rattle.std.specs.List.{list_all}
 use Rattle.ref_tiles.specs.declared.kinds.Kind.{Kind}
 use Rattle.ref_tiles.specs.declared.symbols.Symbol.{Symbol}
@@ -27,6 +27,16 @@ swapped symbol.Dot = symbol.Dot
 swapped (symbol.Letter l) = symbol.Blank l
 swapped (symbol.Blank l) = symbol.Letter l
 
+abbrev pub is_dot : Symbol → Bool
+is_dot symbol.Dot = true
+is_dot other = false
+
+-- two symbols that differ, of which neither is a dot
+pub record AreTwoTiles (symbol other : Symbol) : Type 0 where
+  pub one : is_dot symbol ≡ false
+  pub another : is_dot other ≡ false
+  pub differ : symbol ≢ other
+
 -- a text with another symbol at a place, counted from 0
 abbrev pub with_symbol : List Symbol → (place : ℕ) → Symbol → List Symbol
 with_symbol word place other = slice_set word place other
@@ -42,8 +52,8 @@ pub record IsNotOnRack (m : Moment) (at : ℕ) (dir : Dir) (word : List Symbol) 
   pub counts : has ≡ count_of rack which
   pub more : has < many
 
--- The text of a play with another symbol at a place, which is on this square, is a legal play there, with this score; what is
--- written there, and what it is read as, are named by the bytes that write them.
+-- The text of a play with another tile at a place, which is on this square, is a legal play there, with this score; what is
+-- written there, and what it is read as, are named by the bytes that write them, and neither is a dot.
 pub record IsReadAs (m : Moment) (at : ℕ) (dir : Dir) (word : List Symbol) (place : ℕ) (symbol other : Symbol) (square stood read : ℕ) (score : ℤ) : Type 0 where
   pub stands : slice_get word place ≡ Some symbol
   pub on_square : square ≡ along dir at place
@@ -51,6 +61,7 @@ pub record IsReadAs (m : Moment) (at : ℕ) (dir : Dir) (word : List Symbol) (pl
   pub reads : read ≡ byte_of other
   pub legal : play_fault m.before.board dir at (with_symbol word place other) ≡ None
   pub scores : score ≡ text_score m.rules m.before.board dir at (with_symbol word place other)
+  pub tiles : AreTwoTiles symbol other
 
 -- With the letter on a square as a blank, or the blank there as a letter, the play has the written score.
 pub record IsSwapped (m : Moment) (at : ℕ) (dir : Dir) (word : List Symbol) (square stood read : ℕ) (score : ℤ) : Type 0 where

@@ -1,13 +1,13 @@
 -- The right score of an event, and where the written one would be right.
-use Rattle.std.specs.Prelude.{◌≡◌, ◌≢◌, ℕ, ℤ, pos, neg_ℤ, ◌-◌, ◌*◌, ◌+ℤ◌, true, All, length, take, Option, Some, None, is_some}
+use Rattle.std.specs.Prelude.{◌≡◌, ◌≢◌, ℕ, ℤ, pos, neg_ℤ, ◌-◌, ◌*◌, ◌+ℤ◌, ◌<◌, Bool, true, false, All, length, take, Option, Some, None}
 use Rattle.ref_tiles.specs.declared.rulebook.Rules.{Rules}
 use Rattle.gcg_read.specs.declared.events.Seat.{Seat}
 use Rattle.gcg_read.specs.declared.events.EventKind.{EventKind}
 use Rattle.gcg_read.specs.declared.events.EventKind.TheVariants as kind
 use Rattle.game_turns.specs.Seats.{side_of}
-use Rattle.game_turns.specs.Tallies.{State, Latest, played, taken_back, is_play, is_pass}
+use Rattle.game_turns.specs.Tallies.{State, Latest, played, taken_back, is_pass}
 use Rattle.game_turns.specs.Tallies as tallies
-use Rattle.game_turns.specs.Checks.{text_score, points_in}
+use Rattle.game_turns.specs.Checks.{play_fault, text_score, points_in}
 use Rattle.explain_clues.specs.Spots.{scores_at}
 use Rattle.explain_facts.specs.declared.facts.scores.ScoreFact.{ScoreFact}
 use Rattle.explain_facts.specs.declared.facts.scores.ScoreFact.TheVariants as score_fact
@@ -42,17 +42,22 @@ right_score rules s (kind.LastRack tiles) = Some (last_rack_score (points_in rul
 abbrev pub AreScores : Moment → (right written : ℤ) → Type 0
 AreScores m right written = (right_score m.rules m.before m.event.kind ≡ Some right) × (written ≡ m.event.score) × (right ≢ written)
 
+-- the points of a rack are doubled for the player who is out, and lost if no player is
+abbrev pub IsDoubledFor : (is_doubled : Bool) → (out : Option Seat) → Seat → Type 0
+IsDoubledFor true out player = out ≡ Some player
+IsDoubledFor false out player = out ≡ None
+
 -- what each fact about the score says is true at the moment
 abbrev pub IsScoreTrue : Moment → ScoreFact → Type 0
-IsScoreTrue m (score_fact.Play right written) = (is_play m.event.kind ≡ true) × AreScores m right written
+IsScoreTrue m (score_fact.Play right written) = OfPlay m.event.kind (λ at dir word. play_fault m.before.board dir at word ≡ None) × AreScores m right written
 IsScoreTrue m (score_fact.Pass right written) = (is_pass m.event.kind ≡ true) × AreScores m right written
 IsScoreTrue m (score_fact.Exchange right written) = (is_exchange m.event.kind ≡ true) × AreScores m right written
 IsScoreTrue m (score_fact.Withdrawal right written) = (is_withdrawal m.event.kind ≡ true) × AreScores m right written
 IsScoreTrue m (score_fact.LastRack player is_doubled tiles right written) =
-    (m.event.kind ≡ kind.LastRack tiles) × (player ≡ m.event.player) × (is_doubled ≡ is_some m.before.out) × AreScores m right written
+    (m.event.kind ≡ kind.LastRack tiles) × (player ≡ m.event.player) × IsDoubledFor is_doubled m.before.out player × AreScores m right written
 IsScoreTrue m (score_fact.Other right written) = AreScores m right written
 IsScoreTrue m (score_fact.Elsewhere written spots others) =
-    OfPlay m.event.kind (λ at dir word. (written ≡ m.event.score) × (spots.items ≡ take 3 (places m word)) × (others ≡ length (places m word) - 3)
+    OfPlay m.event.kind (λ at dir word. (written ≡ m.event.score) × (spots.items ≡ take 3 (places m word)) × (0 < length spots.items) × (others ≡ length (places m word) - 3)
     × All (λ spot. scores_at m.rules m.before.board word written spot ≡ true) spots.items × All (λ spot. stands_at m word spot ≡ true) spots.items)
 IsScoreTrue m (score_fact.TotalFits score total) =
     (right_score m.rules m.before m.event.kind ≡ Some score) × (total ≡ m.event.total) × (total ≡ (side_of m.before.sides m.event.player).total +ℤ score)

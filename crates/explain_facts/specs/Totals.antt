@@ -1,5 +1,5 @@
 -- The right total of an event, and penalties for time.
-use Rattle.std.specs.Prelude.{◌≡◌, ◌≢◌, ℕ, ◌+ℤ◌, ◌&&◌, Bool, true, false, List, Contains, reverse, Some}
+use Rattle.std.specs.Prelude.{◌≡◌, ◌≢◌, ℕ, pos, ◌+ℤ◌, ◌&&◌, Bool, true, false, List, Contains, reverse, Some}
 use Rattle.gcg_read.specs.declared.events.Seat.{Seat}
 use Rattle.gcg_read.specs.declared.events.Event.{Event}
 use Rattle.gcg_read.specs.Players.{same_seat}
@@ -28,9 +28,9 @@ abbrev pub IsTotalTrue : Moment → TotalFact → Type 0
 IsTotalTrue m (total_fact.Wrong player had score right written) =
     (player ≡ m.event.player) × (had ≡ (side_of m.before.sides player).total) × (score ≡ m.event.score) × (right ≡ had +ℤ score) × (written ≡ m.event.total)
     × (right ≢ written)
-IsTotalTrue m total_fact.LeavesOutOwn = m.event.total ≡ (side_of m.before.sides m.event.player).total
+IsTotalTrue m total_fact.LeavesOutOwn = (m.event.score ≢ pos 0) × (m.event.total ≡ (side_of m.before.sides m.event.player).total)
 IsTotalTrue m (total_fact.LeavesOut line score) =
-    (latest_with m.event.player score (reverse m.past) ≡ Some line) × (m.event.total +ℤ score ≡ total_after m.before m.event)
+    (latest_with m.event.player score (reverse m.past) ≡ Some line) × (score ≢ pos 0) × (m.event.total +ℤ score ≡ total_after m.before m.event)
 IsTotalTrue m (total_fact.TimeStep step written) =
     (is_time m.event.kind ≡ true) × (step ≡ m.rules.time_step) × (written ≡ m.event.score) × (is_penalty step written ≡ false)
 IsTotalTrue m (total_fact.SecondTime player line) = (player ≡ m.event.player) × IsTimeOf m.past player line

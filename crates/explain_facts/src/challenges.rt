@@ -1,12 +1,14 @@
 //! Plays that are taken back or challenged, and their words.
 ghost use Rattle.std.specs.Prelude.{◌≡◌, ◌≤◌, ◌*◌, true, Some, length, map, IfOk, IfSome, All, OnOk, option_map};
-ghost use Rattle.std.specs.List.{range_with_len};
+ghost use Rattle.std.specs.List.{range_with_len, list_any};
 ghost use Rattle.game_turns.specs.Checks.{listed_in};
 ghost use Rattle.ref_play.specs.Words.{items_of};
 ghost use Rattle.game_turns.specs.declared.faults.RuleFault.TheVariants as fault;
 ghost use Rattle.explain_facts.specs.Moments.{moment_of, IsRefusedFor};
 ghost use Rattle.explain_facts.specs.Spelling.{letters_in};
-ghost use Rattle.explain_facts.specs.Challenges.{play_before};
+ghost use Rattle.explain_facts.specs.Kinds.{is_withdrawal};
+ghost use Rattle.explain_facts.specs.Challenges.{play_before, is_amount};
+ghost use Rattle.gcg_read.specs.Players.{same_seat};
 ghost use Rattle.explain_facts.specs.Facts.{IsTrue};
 ghost use Rattle.explain_facts.specs.FaultFacts.{says, IsTallied};
 
@@ -46,14 +48,17 @@ pub(crate) fn valid(alloc: Global, scene: &Scene<'_>) -> Result<Option<Fact>, Al
     ensures reported { IfOk result (λ fact. IfSome fact (IsTrue (moment_of scene.now))) }
     ensures named { IfOk result (λ fact. IsTallied (moment_of scene.now) → says fault.WithdrawnValid fact ≡ true) }
 {
+    let Some(event) = play_before(scene) else {
+        return Ok(None);
+    };
     let words = spelled(alloc, scene.machine.latest_words())?;
-    match scene.past.last() {
-        None => Ok(None),
-        Some(event) => Ok(Some(Fact::Challenge(ChallengeFact::PlayStands {
-            line: event.line,
-            words,
-        }))),
+    if words.is_empty() {
+        return Ok(None);
     }
+    Ok(Some(Fact::Challenge(ChallengeFact::PlayStands {
+        line: event.line,
+        words,
+    })))
 }
 
 /// That no word of the challenged play is in the list.
@@ -63,19 +68,23 @@ pub(crate) fn phony(alloc: Global, scene: &Scene<'_>) -> Result<Option<Fact>, Al
     ensures reported { IfOk result (λ fact. IfSome fact (IsTrue (moment_of scene.now))) }
     ensures named { IfOk result (λ fact. IsTallied (moment_of scene.now) → says fault.BonusOnPhony fact ≡ true) }
 {
+    let Some(play) = play_before(scene) else {
+        return Ok(None);
+    };
     let words = spelled(alloc, scene.machine.latest_words())?;
-    match scene.past.last() {
-        None => Ok(None),
-        Some(event) => Ok(Some(Fact::Challenge(ChallengeFact::NoWordListed {
-            line: event.line,
-            words,
-        }))),
+    if words.is_empty() {
+        return Ok(None);
     }
+    Ok(Some(Fact::Challenge(ChallengeFact::NoWordListed {
+        line: play.line,
+        words,
+    })))
 }
 
 /// That the play before is the other player's, so that it cannot be taken back.
 fn others_play(scene: &Scene<'_>, play: &Event) -> Option<Fact>
     requires before { play_before scene.now.past.now ≡ Some play.now }
+    requires takes_back { is_withdrawal scene.now.event.now.kind ≡ true }
     requires fails { IsRefusedFor (moment_of scene.now) fault.NothingToWithdraw }
     ensures reported { IfSome result (IsTrue (moment_of scene.now)) }
     ensures named { IsTallied (moment_of scene.now) → says fault.NothingToWithdraw result ≡ true }
@@ -90,12 +99,22 @@ fn others_play(scene: &Scene<'_>, play: &Event) -> Option<Fact>
     }))
 }
 
+/// Whether an event takes a play back.
+fn is_withdrawal(kind: &EventKind) -> bool
+    ensures { result ≡ is_withdrawal kind.now }
+{
+    matches!(kind, EventKind::Withdraw)
+}
+
 /// Why there is no play to take back.
 pub(crate) fn nothing_to_withdraw(scene: &Scene<'_>) -> Option<Fact>
     requires fails { IsRefusedFor (moment_of scene.now) fault.NothingToWithdraw }
     ensures reported { IfSome result (IsTrue (moment_of scene.now)) }
     ensures named { IsTallied (moment_of scene.now) → says fault.NothingToWithdraw result ≡ true }
 {
+    if !is_withdrawal(&scene.event.kind) {
+        return None;
+    }
     match play_before(scene) {
         Some(play) => others_play(scene, play),
         None => Some(Fact::Challenge(ChallengeFact::NothingToTakeBack {
@@ -109,10 +128,10 @@ pub(crate) fn nothing_to_withdraw(scene: &Scene<'_>) -> Option<Fact>
 pub(crate) fn wrong_bonus(alloc: Global, scene: &Scene<'_>) -> Result<Option<Fact>, AllocError>
     requires fails { IsRefusedFor (moment_of scene.now) fault.BadBonus }
     ensures reported { IfOk result (λ fact. IfSome fact (IsTrue (moment_of scene.now))) }
-    ensures named { IfOk result (λ fact. says fault.BadBonus fact ≡ true) }
+    ensures named { IfOk result (λ fact. IsTallied (moment_of scene.now) → says fault.BadBonus fact ≡ true) }
 {
     match play_before(scene) {
-        Some(play) if same_seat(play.player, scene.event.player) => bonus(alloc, scene),
+        Some(play) if same_seat(play.player, scene.event.player) => bonus(alloc, scene, play),
         Some(play) => Ok(Some(Fact::Challenge(ChallengeFact::OthersBonus {
             line: play.line,
             player: scene.event.player,
@@ -134,21 +153,47 @@ fn listed_in(list: &WordList, words: &[Word]) -> usize
         .count()
 }
 
-/// Which bonus is allowed.
+/// Whether a number of points is an amount.
+fn is_amount(points: i32, amount: usize) -> bool
+    ensures { result ≡ is_amount points amount }
+{
+    points >= 0 && points as u32 as usize == amount
+}
+
+/// Whether a number of points is one of some amounts.
+fn is_among(amounts: &[usize], points: i32) -> bool
+    ensures { result ≡ list_any (is_amount points) amounts.now }
+{
+    for amount in amounts {
+        if is_amount(points, *amount) {
+            return true;
+        }
+    }
+    false
+}
+
+/// Which bonus is allowed for the challenge of a play.
 #[tactic(auto, using(crate::proofs::Because::bonus_of_challenge))]
-fn bonus(alloc: Global, scene: &Scene<'_>) -> Result<Option<Fact>, AllocError>
+fn bonus(alloc: Global, scene: &Scene<'_>, play: &Event) -> Result<Option<Fact>, AllocError>
+    requires before { play_before scene.now.past.now ≡ Some play.now }
+    requires own { same_seat play.now.player scene.now.event.now.player ≡ true }
     requires fails { IsRefusedFor (moment_of scene.now) fault.BadBonus }
     ensures reported { IfOk result (λ fact. IfSome fact (IsTrue (moment_of scene.now))) }
-    ensures named { IfOk result (λ fact. says fault.BadBonus fact ≡ true) }
+    ensures named { IfOk result (λ fact. IsTallied (moment_of scene.now) → says fault.BadBonus fact ≡ true) }
 {
+    let _ = play;
     let listed = listed_in(scene.list, scene.machine.latest_words());
     let unit = scene.rules.challenge_unit as usize;
     let amounts = amounts_of(alloc, unit, listed)?;
+    let written = scene.event.score.value();
+    if amounts.is_empty() || is_among(amounts.as_slice(), written) {
+        return Ok(None);
+    }
     Ok(Some(Fact::Challenge(ChallengeFact::Bonus {
         unit,
         listed,
         amounts,
-        written: scene.event.score.value(),
+        written,
     })))
 }
 

@@ -1,12 +1,13 @@
 //! Up to which line a deal gives the racks that are shown, and what cannot be dealt.
-ghost use Rattle.std.specs.Prelude.{◌≡◌, ◌++◌, IfOk, IfSome, OnOk};
+ghost use Rattle.std.specs.Prelude.{◌≡◌, ◌+◌, ◌<◌, ◌++◌, None, take, length, IfOk, IfSome, IsFalse, OnOk};
+ghost use Rattle.deal_steps.specs.Bounds.{first_bound};
 ghost use Rattle.explain_facts.specs.Deals.{exchanged_by, exchanged_by_motion, exchange_line, exchange_lines};
 ghost use Rattle.explain_facts.specs.Facts.{IsTrueOfRacks};
 
 use crate::clashes::clash_at;
 use crate::facts::{DealFact, ExchangeLine, Fact};
 use deal_search::{Settling, settle};
-use deal_steps::{Act, Motion, Step};
+use deal_steps::{Act, Motion, Step, first_bound};
 use ref_tiles::Rules;
 use std::alloc::{AllocError, Global};
 
@@ -83,8 +84,16 @@ fn exchange_lines(alloc: Global, steps: &[Step]) -> Result<Vec<ExchangeLine>, Al
     Ok(lines)
 }
 
+/// Whether a step at a place or before it shows too much by itself.
+fn exceeds_bound(rules: &Rules, steps: &[Step], place: usize) -> bool
+    requires { place < length steps.now }
+    ensures { IsFalse result → first_bound rules.now (take (place + 1) steps.now) ≡ None }
+{
+    first_bound(rules, &steps[..place + 1]).is_some()
+}
+
 /// Which tiles and lines cannot be together, and the exchanges up to a step; none if no proof is found that no deal gives the racks up
-/// to it.
+/// to it, or if a step shows too much by itself.
 ///
 /// It fails only if memory runs out.
 ///
@@ -101,6 +110,9 @@ pub fn no_deal(
     let Some(step) = steps.get(place) else {
         return Ok(None);
     };
+    if exceeds_bound(rules, steps, place) {
+        return Ok(None);
+    }
     let Some(clash) = clash_at(alloc, rules, steps, place)? else {
         return Ok(None);
     };

@@ -1,11 +1,13 @@
 //! Racks that would have to hold too much or too little, and kinds of tiles of which there are too few.
-ghost use Rattle.std.specs.Prelude.{◌≡◌, ◌<◌, ◌++◌, ◌↔◌, [], IsTrue, IfOk, IfSome, OnOk, Some, sum, take, reverse, slice_get, if◌then◌else◌};
+ghost use Rattle.std.specs.Prelude.{◌≡◌, ◌<◌, ◌++◌, [], ℕ, true, IfOk, IfSome, OnOk, Some, sum, take, reverse, slice_get, if◌then◌else◌};
 ghost use Rattle.std.specs.List.{list_any};
 ghost use Rattle.ref_tiles.specs.Counting.{no_tiles, count_of};
 ghost use Rattle.deal_steps.specs.Knowing.{IsShownAt};
 ghost use Rattle.deal_steps.specs.Steps.{needed, ends_epoch, size_of};
 ghost use Rattle.explain_facts.specs.Racks.{holder_of, remaining_by, leaving, rack_line, rack_lines, together, remaining_after, leaving_by, laid_in_kind, shown_in_kind, kind_line, kind_lines};
+ghost use Rattle.deal_steps.specs.declared.faults.DealBound.TheVariants as bound;
 ghost use Rattle.explain_facts.specs.Facts.{IsTrueOfRacks};
+ghost use Rattle.explain_facts.specs.FaultFacts.{IsFirstBoundAt, says_bound};
 
 use crate::facts::{Fact, KindLine, Leaving, RackFact, RackLine};
 use deal_steps::{Act, Known, Motion, Step, greater, shown_at, used_by, without};
@@ -121,86 +123,6 @@ fn remaining_by(leaves: &Leaving) -> Counts
     }
 }
 
-/// What lines together show that a rack has to hold at the last of them.
-fn together(lines: &[RackLine]) -> Counts
-    ensures { result ≡ together no_tiles lines.now }
-{
-    let mut known = Counts::new();
-    for k in 0..lines.len() {
-        let line = &lines[k];
-        let shown = greater(&known, &line.shown);
-        if k + 1 == lines.len() {
-            return shown;
-        }
-        known = without(&shown, &remaining_by(&line.leaves));
-    }
-    known
-}
-
-/// Whether both are the same tiles.
-fn are_same(tiles: &Counts, others: &Counts) -> bool
-    ensures { IsTrue result ↔ (tiles.now ≡ others.now) }
-{
-    tiles == others
-}
-
-/// That a rack would have to hold more tiles at a step than its player has; none if the lines up to it do not show that.
-///
-/// The fact is true (`IsTrue`). That it is found is tested.
-pub fn rack_too_big(
-    alloc: Global,
-    rules: &Rules,
-    steps: &[Step],
-    place: usize,
-) -> Result<Option<Fact>, AllocError>
-    ensures { IfOk result (λ fact. IfSome fact (IsTrueOfRacks rules.now steps.now place)) }
-{
-    let Some(step) = steps.get(place) else {
-        return Ok(None);
-    };
-    match shown_at(rules, steps, place) {
-        None => Ok(None),
-        Some(known) => too_big(alloc, rules, steps, place, step, &known),
-    }
-}
-
-/// That a rack would have to hold more tiles at a step than its player has, by what is shown there.
-#[tactic(auto, using(crate::proofs::RackLaws::within))]
-fn too_big(
-    alloc: Global,
-    rules: &Rules,
-    steps: &[Step],
-    place: usize,
-    step: &Step,
-    known: &Known,
-) -> Result<Option<Fact>, AllocError>
-    requires there { slice_get steps.now place ≡ Some step.now }
-    requires shown { IsShownAt steps.now place known.now }
-    ensures { IfOk result (λ fact. IfSome fact (IsTrueOfRacks rules.now steps.now place)) }
-{
-    let _ = rules;
-    let player = holder_of(step);
-    let past = &steps[..place];
-    let mut lines = rack_lines(alloc, past, player)?;
-    push_rack_line(&mut lines, step, player)?;
-    let needed = together(lines.as_slice());
-    let size = step.size_of(player);
-    if !are_same(&needed, known.of(player)) {
-        return Ok(None);
-    }
-    if needed.total() <= size {
-        return Ok(None);
-    }
-    Ok(Some(Fact::Rack(RackFact::TooBig {
-        player,
-        size,
-        needed,
-        lines,
-    })))
-}
-
-// ---- tiles that are left over
-
 /// What lines leave on a rack after the last of them.
 fn remaining_after(lines: &[RackLine]) -> Counts
     ensures { result ≡ remaining_after no_tiles lines.now }
@@ -212,6 +134,68 @@ fn remaining_after(lines: &[RackLine]) -> Counts
     }
     known
 }
+
+/// What a rack has to hold at a step, by what the lines before it leave and what its own line shows.
+fn together(known: &Counts, step: &Step, player: Seat) -> Counts
+    ensures { result ≡ together known.now (rack_line player step.now) }
+{
+    match tiles_of(step, player) {
+        Some(shown) if shown.total() != 0 => greater(known, &shown),
+        _ => *known,
+    }
+}
+
+/// That a rack would have to hold more tiles at a step than its player has; none if the lines up to it do not show that.
+///
+/// The fact is true (`IsTrue`), and it is found if the step exceeds that bound.
+pub fn rack_too_big(
+    alloc: Global,
+    rules: &Rules,
+    steps: &[Step],
+    place: usize,
+) -> Result<Option<Fact>, AllocError>
+    ensures reported { IfOk result (λ fact. IfSome fact (IsTrueOfRacks rules.now steps.now place)) }
+    ensures found { IfOk result (λ fact. (line : ℕ) → IsFirstBoundAt rules.now steps.now place (bound.RackTooBig line) → says_bound (bound.RackTooBig line) fact ≡ true) }
+{
+    let Some(step) = steps.get(place) else {
+        return Ok(None);
+    };
+    too_big(alloc, rules, steps, place, step)
+}
+
+/// That a rack would have to hold more tiles at a step than its player has.
+#[tactic(auto, using(crate::proofs::RackLaws::within))]
+fn too_big(
+    alloc: Global,
+    rules: &Rules,
+    steps: &[Step],
+    place: usize,
+    step: &Step,
+) -> Result<Option<Fact>, AllocError>
+    requires there { slice_get steps.now place ≡ Some step.now }
+    ensures reported { IfOk result (λ fact. IfSome fact (IsTrueOfRacks rules.now steps.now place)) }
+    ensures found { IfOk result (λ fact. (line : ℕ) → IsFirstBoundAt rules.now steps.now place (bound.RackTooBig line) → says_bound (bound.RackTooBig line) fact ≡ true) }
+{
+    let _ = rules;
+    let player = holder_of(step);
+    let past = &steps[..place];
+    let mut lines = rack_lines(alloc, past, player)?;
+    let remaining = remaining_after(lines.as_slice());
+    let needed = together(&remaining, step, player);
+    let size = step.size_of(player);
+    if needed.total() <= size {
+        return Ok(None);
+    }
+    push_rack_line(&mut lines, step, player)?;
+    Ok(Some(Fact::Rack(RackFact::TooBig {
+        player,
+        size,
+        needed,
+        lines,
+    })))
+}
+
+// ---- tiles that are left over
 
 /// The first kind of which some tiles have fewer than others.
 fn first_fewer(tiles: &Counts, others: &Counts) -> Option<Kind>
@@ -359,7 +343,7 @@ fn kind_lines(alloc: Global, past: &[Step], kind: Kind) -> Result<Vec<KindLine>,
 
 /// That there would have to be more tiles of a kind at a step than the game has; none if the lines up to it do not show that.
 ///
-/// The fact is true (`IsTrue`). That it is found is tested.
+/// The fact is true (`IsTrue`), and it is found if the step is the first that exceeds that bound.
 pub fn tiles_short(
     alloc: Global,
     rules: &Rules,
@@ -367,7 +351,8 @@ pub fn tiles_short(
     place: usize,
     kind: Kind,
 ) -> Result<Option<Fact>, AllocError>
-    ensures { IfOk result (λ fact. IfSome fact (IsTrueOfRacks rules.now steps.now place)) }
+    ensures reported { IfOk result (λ fact. IfSome fact (IsTrueOfRacks rules.now steps.now place)) }
+    ensures found { IfOk result (λ fact. (line : ℕ) → IsFirstBoundAt rules.now steps.now place (bound.TilesShort line kind) → says_bound (bound.TilesShort line kind) fact ≡ true) }
 {
     let Some(step) = steps.get(place) else {
         return Ok(None);
@@ -379,6 +364,7 @@ pub fn tiles_short(
 }
 
 /// That there would have to be more tiles of a kind at a step than the game has, by what is shown there.
+#[tactic(auto, using(crate::proofs::RackLaws::within))]
 fn short(
     alloc: Global,
     rules: &Rules,
@@ -390,13 +376,15 @@ fn short(
 ) -> Result<Option<Fact>, AllocError>
     requires there { slice_get steps.now place ≡ Some step.now }
     requires shown { IsShownAt steps.now place known.now }
-    ensures { IfOk result (λ fact. IfSome fact (IsTrueOfRacks rules.now steps.now place)) }
+    ensures reported { IfOk result (λ fact. IfSome fact (IsTrueOfRacks rules.now steps.now place)) }
+    ensures found { IfOk result (λ fact. (line : ℕ) → IsFirstBoundAt rules.now steps.now place (bound.TilesShort line kind) → says_bound (bound.TilesShort line kind) fact ≡ true) }
 {
     let laid = known.laid.count(kind) as usize;
     let first = known.first.count(kind) as usize;
     let second = known.second.count(kind) as usize;
     let all = rules.counts.count(kind) as usize;
-    let mut lines = kind_lines(alloc, steps.get(..place).unwrap_or(&[]), kind)?;
+    let past = &steps[..place];
+    let mut lines = kind_lines(alloc, past, kind)?;
     push_kind_line(&mut lines, step, kind, true)?;
     if laid + first + second <= all {
         return Ok(None);

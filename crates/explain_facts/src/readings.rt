@@ -6,7 +6,7 @@ ghost use Rattle.gcg_read.specs.declared.events.EventKind.TheVariants as kind;
 ghost use Rattle.game_turns.specs.Machines.{state_of};
 ghost use Rattle.explain_facts.specs.Moments.{moment_of};
 ghost use Rattle.explain_facts.specs.Facts.{IsTrue};
-ghost use Rattle.explain_facts.specs.Readings.{swapped, with_symbol, IsOnRack};
+ghost use Rattle.explain_facts.specs.Readings.{swapped, is_dot, AreTwoTiles, with_symbol, IsOnRack};
 
 use crate::challenges::spelled;
 use crate::facts::{Fact, ReadingFact};
@@ -79,6 +79,23 @@ fn with_kind(symbol: Symbol, kind: Kind) -> Symbol {
     }
 }
 
+/// Whether a symbol is a dot.
+fn is_dot(symbol: Symbol) -> bool
+    ensures { result ≡ is_dot symbol }
+{
+    matches!(symbol, Symbol::Dot)
+}
+
+/// Whether two symbols differ, and neither is a dot.
+fn are_two_tiles(symbol: Symbol, other: Symbol) -> bool
+    ensures { result ≡ true → AreTwoTiles symbol other }
+{
+    if is_dot(symbol) || is_dot(other) {
+        return false;
+    }
+    symbol.byte() != other.byte()
+}
+
 /// A text with another symbol at a place.
 fn with_symbol(
     alloc: Global,
@@ -115,6 +132,9 @@ fn as_blank(
         return Ok(None);
     }
     let other = swapped(*symbol);
+    if !are_two_tiles(*symbol, other) {
+        return Ok(None);
+    }
     let text = with_symbol(alloc, word, place, other)?;
     let board = scene.machine.board();
     let Ok(play) = legal_play(board, at, dir, text.as_slice()) else {
@@ -239,6 +259,9 @@ fn misread(
     let Some(rack) = &scene.event.rack else {
         return Ok(None);
     };
+    if !are_two_tiles(*symbol, other) {
+        return Ok(None);
+    }
     if at.place(dir) + place >= SIDE {
         return Ok(None);
     }

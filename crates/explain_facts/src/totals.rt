@@ -33,7 +33,6 @@ fn wrong_total(scene: &Scene<'_>, right: i32) -> Fact
 }
 
 /// The turn that a total leaves out, if it is right except for that one.
-#[tactic(auto, using(crate::proofs::Numbers::remaining_own, crate::proofs::Numbers::remaining_one))]
 fn omitted(scene: &Scene<'_>, right: i32) -> Option<Fact>
     requires fails { fault_in scene.now.rules.now scene.now.list.now (state_of scene.now.machine.now) scene.now.event.now ≡ Some (fault.WrongTotal right) }
     ensures { IfSome result (IsTrue (moment_of scene.now)) }

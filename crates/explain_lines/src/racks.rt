@@ -99,7 +99,7 @@ fn push_short(
             Part::Many(many.all),
             Part::Say(" of the tile "),
             Part::Kind(kind),
-            Part::Say(", but by the lines below there would have to be "),
+            Part::Say(", but by what the lines up to this one show there would have to be "),
             Part::Many(many.needed),
             Part::Say(": "),
             Part::Many(many.laid),

@@ -9,7 +9,7 @@ use ref_tiles::{Rules, SQUARES};
 use std::alloc::{AllocError, Global};
 
 /// A square of a board as it is shown.
-#[derive(Clone, Copy, Debug, PartialEq, Eq)]
+#[derive(Clone, Copy)]
 pub struct ShownSquare {
     /// The letter of its tile, a capital, or a small one for a blank; if it is empty, the mark of its premium.
     pub mark: u8,

@@ -17,7 +17,7 @@ use ref_tiles::{Premium, Rules, Symbol, Tile};
 const WORDS: usize = 8;
 
 /// A square of a word that a play forms.
-#[derive(Clone, Copy, Debug, PartialEq, Eq)]
+#[derive(Clone, Copy)]
 pub struct PlayedSquare {
     /// The square.
     pub square: Square,

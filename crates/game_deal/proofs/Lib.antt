@@ -10,6 +10,7 @@ pub mod FitWalks
 pub mod CountedTiles
 pub mod PlainRecords
 pub mod SettledRecords
+pub mod BoundLines
 pub mod Deals
 pub mod FoundRacks
 pub mod Outcomes

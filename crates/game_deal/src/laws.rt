@@ -1,5 +1,5 @@
 //! Laws of the definitions that the contracts of deals cite. Each function does nothing: its contract is the law.
-ghost use Rattle.game_deal.specs.Laws.{AllowedIsRun, FittingIsBounded, TilesAreAll};
+ghost use Rattle.game_deal.specs.Laws.{AllowedIsRun, ExceedingHasNoDeal, FittingIsBounded, TilesAreAll};
 
 use deal_steps::law_of_fitting;
 
@@ -11,6 +11,14 @@ pub fn law_of_runs()
 /// If some racks fit a record all of whose events the rules allow, no bound is exceeded: so each refusal of a bound is right.
 pub fn law_of_bounds()
     ensures { FittingIsBounded }
+{
+    law_of_fitting();
+}
+
+/// If the rules allow every event of a record, and its racks exceed a bound, no racks fit its steps up to the event on the first line that exceeds one, that
+/// event included.
+pub fn law_of_bound_lines()
+    ensures { ExceedingHasNoDeal }
 {
     law_of_fitting();
 }

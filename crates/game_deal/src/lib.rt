@@ -20,7 +20,7 @@ pub use deal_cuts::Earlier;
 pub use deal_steps::{Deal, DealBound, Held, Racks};
 pub use faults::{DealFault, exceeded_bound};
 pub use fitting::fits;
-pub use laws::{law_of_bounds, law_of_runs, law_of_tiles};
+pub use laws::{law_of_bound_lines, law_of_bounds, law_of_runs, law_of_tiles};
 pub use needs::Needs;
 pub use racks::{RackFinding, RackTrial, settle_racks, try_racks};
 pub use recording::next_step;

@@ -14,7 +14,7 @@ use Rattle.lex_file.specs.Languages.{file_tail}
 use Rattle.lex_file.specs.Lexicons.{is_label}
 use Rattle.lex_file.specs.Shapes.{file_node, is_file_node, fault_of}
 use Rattle.lex_file.specs.laws.Files.{file_labels, sound}
-use Rattle.lex_file.specs.Graphs.{none_of_zero}
+use Rattle.lex_file.specs.laws.Graphs.{none_of_zero}
 use Rattle.lex_file.specs.Walking.{next_strings}
 use Rattle.lex_agree.specs.Counts.{HasAtMost, most_counted, slot_of, IsCount, IsCountedBy, AreCountedBeside, IsCounted, IsCountedThere, AreCountedBelow, IsFirstTable, IsPut}
 use Rattle.lex_agree.specs.Walks.{node_tail, Leads}

@@ -9,7 +9,8 @@ use Rattle.lex_file.specs.declared.formats.Format.TheVariants as form
 use Rattle.lex_file.specs.Arcs.{arc_of, is_last}
 use Rattle.lex_file.specs.FileWords.{body_of}
 use Rattle.lex_file.specs.Formats.{most_arcs}
-use Rattle.lex_file.specs.Graphs.{AreRising, is_other}
+use Rattle.lex_file.specs.Graphs.{AreRising}
+use Rattle.lex_file.specs.laws.Graphs.{is_other}
 use Rattle.lex_file.specs.Nodes.{node_at, begins}
 use Rattle.lex_file.specs.laws.Nodes.{node_of_first}
 use Rattle.lex_build.specs.Bodies.{IsBody, IsOpenArc, IsArcList, is_target, run_with, IsNodeWith, HasAppended}

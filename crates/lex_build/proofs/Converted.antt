@@ -12,7 +12,8 @@ use Rattle.lex_file.specs.Arcs.{arc_with, accepts_of, target_of}
 use Rattle.lex_file.specs.Files.{number_of, IsNextNode}
 use Rattle.lex_file.specs.FileWords.{body_of}
 use Rattle.lex_file.specs.Formats.{header_bytes}
-use Rattle.lex_file.specs.Graphs.{IsSoundGraph, none_of_zero, arc_sound}
+use Rattle.lex_file.specs.Graphs.{IsSoundGraph}
+use Rattle.lex_file.specs.laws.Graphs.{none_of_zero, arc_sound}
 use Rattle.lex_file.specs.Languages.{tail_in}
 use Rattle.lex_file.specs.Shapes.{format_of, fault_of, root_of, word_count_of, nodes_by, names_node, file_node, is_file_node}
 use Rattle.lex_file.specs.laws.Files as files

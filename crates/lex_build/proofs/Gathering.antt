@@ -11,7 +11,7 @@ use Rattle.lex_file.specs.Arcs.{arc_of, is_last, has_label, arc_with, accepts_of
 use Rattle.lex_file.specs.Nodes.{node_at, is_first}
 use Rattle.lex_file.specs.Languages.{tail_in}
 use Rattle.lex_file.specs.Lexicons.{is_label, IsAfter, NextGives}
-use Rattle.lex_file.specs.Graphs.{none_of_zero}
+use Rattle.lex_file.specs.laws.Graphs.{none_of_zero}
 use Rattle.lex_file.proofs.Runs.{not_equal}
 use Rattle.lex_build.specs.Bodies.{IsBody, IsGrown, is_target, IsOpenArc, IsArcList, IsPlaced, IsUnplaced}
 use Rattle.lex_build.specs.Labels.{HasLabels}

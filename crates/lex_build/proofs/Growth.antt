@@ -8,7 +8,7 @@ use Rattle.lex_file.specs.Arcs.{arc_of, is_last, arc_with, accepts_of, target_of
 use Rattle.lex_file.specs.Nodes.{run_of, node_at, begins, is_first, is_node, start_at}
 use Rattle.lex_file.specs.Shapes.{label_before, leads_back, arc_fault, arcs_fault}
 use Rattle.lex_file.specs.Languages.{tail_in}
-use Rattle.lex_file.specs.Graphs.{arc_sound}
+use Rattle.lex_file.specs.laws.Graphs.{arc_sound}
 use Rattle.lex_file.specs.laws.Nodes.{IsFineArc, arc_facts, fine_at, leads_where, gad1_graph}
 use Rattle.lex_build.specs.Bodies.{is_target}
 

@@ -11,7 +11,8 @@ use Rattle.std.proofs.lemmas.Nat.Bits.{bit_at_and, bit_at_set_same, bit_at_set_o
 use Rattle.lex_file.specs.declared.arcs.Arc.{Arc}
 use Rattle.lex_file.specs.declared.formats.Format.{Format}
 use Rattle.lex_file.specs.Arcs.{has_label}
-use Rattle.lex_file.specs.Graphs.{AreRising, first_or_other, is_other, none_there, or_cases}
+use Rattle.lex_file.specs.Graphs.{AreRising}
+use Rattle.lex_file.specs.laws.Graphs.{first_or_other, is_other, none_there, or_cases}
 use Rattle.lex_file.specs.Masks.{has_bit}
 use Rattle.lex_file.specs.MaskShapes.{accepts_labels}
 use Rattle.lex_build.specs.NodeWords.{HaveLabels, accepts_with, IsLabelWord, IsAcceptWord}

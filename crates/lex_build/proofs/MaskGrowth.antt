@@ -6,7 +6,7 @@ use Rattle.std.proofs.lemmas.Bool.{ltb-true, lt-ltb, le-ltb, eqb-true, cases_lt,
 use Rattle.std.specs.Option.{option_or}
 use Rattle.lex_file.specs.declared.arcs.Arc.{Arc}
 use Rattle.lex_file.specs.declared.faults.FileFault.{FileFault}
-use Rattle.lex_file.specs.Graphs.{or_cases}
+use Rattle.lex_file.specs.laws.Graphs.{or_cases}
 use Rattle.lex_file.specs.Masks.{has_bit, is_marked, labels_below, node_size, mask_arc, arcs_among, mask_node, is_mask_node}
 use Rattle.lex_file.specs.MaskShapes.{points_back, label_fault, node_fault, nodes_fault}
 use Rattle.lex_file.specs.laws.Masks.{IsFineNode, among_has, among_lacks, among_none, label_facts, label_fine, node_facts, node_fine}

@@ -5,7 +5,8 @@ use Rattle.std.proofs.lemmas.Nat.Bits.{bit_at-lt}
 use Rattle.std.specs.List.{Contains, list_any}
 use Rattle.lex_file.specs.declared.arcs.Arc.{Arc}
 use Rattle.lex_file.specs.Arcs.{has_label}
-use Rattle.lex_file.specs.Graphs.{AreRising, first_or_other, is_other, none_there, found_there}
+use Rattle.lex_file.specs.Graphs.{AreRising}
+use Rattle.lex_file.specs.laws.Graphs.{first_or_other, is_other, none_there, found_there}
 use Rattle.lex_file.specs.Masks.{has_bit, labels_below, label_count, node_size, mask_arc, arcs_among, is_mask_node}
 use Rattle.lex_file.specs.MaskShapes.{points_back, label_fault, labels_fault, node_fault}
 use Rattle.lex_file.specs.laws.Masks.{IsFineNode, below_more, among_has, among_lacks, among_none}

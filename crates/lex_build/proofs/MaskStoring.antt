@@ -10,7 +10,7 @@ use Rattle.lex_file.specs.declared.arcs.Arc.{Arc}
 use Rattle.lex_file.specs.declared.formats.Format.TheVariants as form
 use Rattle.lex_file.specs.FileWords.{body_of}
 use Rattle.lex_file.specs.Formats.{most_body_words}
-use Rattle.lex_file.specs.Graphs.{is_other}
+use Rattle.lex_file.specs.laws.Graphs.{is_other}
 use Rattle.lex_file.specs.Masks.{has_bit, is_marked, labels_below, label_count, node_size, mask_arc, mask_node, is_mask_node}
 use Rattle.lex_file.specs.MaskShapes.{points_back, label_fault}
 use Rattle.lex_file.specs.laws.Masks.{IsFineNode}

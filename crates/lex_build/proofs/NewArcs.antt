@@ -8,7 +8,8 @@ use Rattle.std.proofs.lemmas.Bool.Decides.{nat_tests}
 use Rattle.lex_file.specs.declared.arcs.Arc.{Arc}
 use Rattle.lex_file.specs.declared.formats.Format.{Format}
 use Rattle.lex_file.specs.Arcs.{reaches, arc_from}
-use Rattle.lex_file.specs.Graphs.{AreRising, found_there, found_passes}
+use Rattle.lex_file.specs.Graphs.{AreRising}
+use Rattle.lex_file.specs.laws.Graphs.{found_there, found_passes}
 use Rattle.lex_file.specs.Shapes.{fault_of, file_node}
 use Rattle.lex_file.specs.laws.Files.{sound}
 use Rattle.lex_build.specs.Converts.{renamed}

@@ -8,7 +8,8 @@ use Rattle.lex_file.specs.declared.formats.Format.{Format}
 use Rattle.lex_file.specs.declared.formats.Format.TheVariants as form
 use Rattle.lex_file.specs.Files.{IsNextNode}
 use Rattle.lex_file.specs.FileWords.{body_of}
-use Rattle.lex_file.specs.Graphs.{IsSoundGraph, AreRising, first_or_other, is_other, none_there}
+use Rattle.lex_file.specs.Graphs.{IsSoundGraph, AreRising}
+use Rattle.lex_file.specs.laws.Graphs.{first_or_other, is_other, none_there}
 use Rattle.lex_file.specs.Masks.{is_marked}
 use Rattle.lex_file.specs.Nodes.{begins}
 use Rattle.lex_file.specs.MaskShapes.{nodes_fault}

@@ -7,7 +7,8 @@ use Rattle.lex_file.specs.declared.arcs.Arc.{Arc}
 use Rattle.lex_file.specs.Arcs.{has_label, arc_with, accepts_of, target_of}
 use Rattle.lex_file.specs.Shapes.{fault_of, is_file_node, file_node}
 use Rattle.lex_file.specs.Languages.{IsSpelt, tail_in, file_tail}
-use Rattle.lex_file.specs.Graphs.{IsSoundGraph, AreRising, first_or_other, none_there, found_there, found_passes, none_of_zero}
+use Rattle.lex_file.specs.Graphs.{IsSoundGraph, AreRising}
+use Rattle.lex_file.specs.laws.Graphs.{first_or_other, none_there, found_there, found_passes, none_of_zero}
 use Rattle.lex_file.specs.laws.Files.{sound}
 use Rattle.lex_file.proofs.Runs.{not_equal}
 

@@ -10,8 +10,9 @@ use Rattle.lex_file.specs.Lexicons.{IsAfter}
 use Rattle.lex_file.specs.Arcs.{reaches, arc_with, arc_from}
 use Rattle.lex_file.specs.Shapes.{fault_of, file_node, is_file_node}
 use Rattle.lex_file.specs.Languages.{tail_in, file_tail}
-use Rattle.lex_file.specs.Graphs as graphs
-use Rattle.lex_file.specs.Graphs.{IsSoundGraph, AreRising, arc_sound, found_passes, none_of_zero, or_cases}
+use Rattle.lex_file.specs.laws.Graphs as graphs
+use Rattle.lex_file.specs.Graphs.{IsSoundGraph, AreRising}
+use Rattle.lex_file.specs.laws.Graphs.{arc_sound, found_passes, none_of_zero, or_cases}
 use Rattle.lex_file.specs.laws.Files.{sound}
 
 -- ---- the tails of a node

@@ -1,4 +1,5 @@
 -- Laws of the definitions that contracts cite.
+pub mod Graphs
 pub mod Nodes
 pub mod Masks
 pub mod Files

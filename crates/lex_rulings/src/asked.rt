@@ -27,8 +27,8 @@ pub fn is_word(text: &[u8]) -> bool
     has_letters_alone(text) && 2 <= text.len() && text.len() <= 15
 }
 
-/// Appends letters as capitals.
-fn push_capitals(letters: &mut Vec<u8>, text: &[u8]) -> Result<(), AllocError>
+/// Appends a text, its letters as capitals.
+pub fn push_capitals(letters: &mut Vec<u8>, text: &[u8]) -> Result<(), AllocError>
     ensures { OnOk result (letters.new.items ≡ letters.old.items ++ capitals text.now) }
 {
     for byte in text {

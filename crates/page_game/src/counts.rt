@@ -6,7 +6,7 @@ ghost use Rattle.page_game.specs.Counts.{count_of, one_more, AreCountsOf};
 use archive_lines::Answer;
 
 /// How many games had each answer.
-#[derive(Clone, Copy, Debug, PartialEq, Eq)]
+#[derive(Clone, Copy)]
 pub struct AnswerCounts {
     /// How many are legal.
     pub legal: usize,

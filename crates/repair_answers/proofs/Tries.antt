@@ -34,6 +34,6 @@ count_more rules events place many here so_far is =
     ap (λ n. n + here) so_far ∙ ap (λ n. length (flat_map (changes_at rules events) (range_with_len 0 place)) + n) is ∙ sym (lists_more (changes_at rules events) place)
 
 -- few changes have no limit
-pub no_limit : (many all events : ℕ) (limit : Option ℕ) → limit ≡ limit_for many events → many ≡ all → all * events ≤ 4000000 → limit ≡ None
-no_limit many all events limit is same few =
-    is ∙ ap (λ n. limit_for n events) same ∙ ap (λ (b : Bool). if b then None else Some 4000000) (le-leb (all * events) 4000000 few)
+pub no_limit : (many all events steps : ℕ) (limit : Option ℕ) → limit ≡ limit_for many events steps → many ≡ all → all * events ≤ steps → limit ≡ None
+no_limit many all events steps limit is same few =
+    is ∙ ap (λ n. limit_for n events steps) same ∙ ap (λ (b : Bool). if b then None else Some steps) (le-leb (all * events) steps few)

@@ -1,5 +1,5 @@
 -- A bonus or a penalty that would explain wrong numbers.
-use Rattle.std.specs.Prelude.{◌≡◌, ⊤, ℕ, nat_lt, ◌&&◌, Bool, true, false, List, [], ◌∷◌, Option, Some, None, if◌then◌else◌, Ok}
+use Rattle.std.specs.Prelude.{◌≡◌, ⊤, ℕ, ◌*◌, ◌≤◌, length, nat_lt, ◌&&◌, Bool, true, false, List, [], ◌∷◌, Option, Some, None, if◌then◌else◌, Ok}
 use Rattle.ref_tiles.specs.declared.rulebook.Rules.{Rules}
 use Rattle.gcg_read.specs.declared.events.Event.{Event}
 use Rattle.gcg_read.specs.declared.records.Record.{Record}
@@ -18,6 +18,7 @@ use Rattle.repair_answers.specs.Alike.{cost_in}
 use Rattle.repair_answers.specs.Answers.{below_of}
 use Rattle.repair_answers.specs.Choices.{alone_cost}
 use Rattle.repair_answers.specs.Trades.{AreReported}
+use Rattle.repair_answers.specs.Tried.{count_walked}
 use Rattle.repair_answers.specs.Unchanged.{IsUnchanged}
 use Rattle.repair_answers.specs.declared.numbers_alone.NumbersAlone.{NumbersAlone}
 use Rattle.repair_answers.specs.declared.sheet_amounts.SheetAmount.{SheetAmount}
@@ -47,8 +48,8 @@ abbrev pub IsAmountOf : Option NumbersAlone → (reported : List Repair) → Opt
 IsAmountOf alone [] amount = amount ≡ None
 IsAmountOf alone (first ∷ rest) amount = amount ≡ (if explains alone first then Some first else None)
 
--- The first repair of a record, if it is one of a bonus or a penalty and costs less than correcting only the numbers. The changes at the first places of a
--- long record may not have been tried.
+-- The first repair of a record, if it is one of a bonus or a penalty and costs less than correcting only the numbers. All changes of the list are tried, if
+-- they are no more than 500,000 when each is counted once for each event; of a longer record those at the first places may not have been.
 pub record IsAmount (rules : Rules) (list : List (List ℕ)) (written : List Event) (amount : Option Repair) : Type 0 where
   pub numbers : Option NumbersAlone
   pub alone : IsUnchanged rules list written numbers
@@ -60,6 +61,7 @@ pub record IsAmount (rules : Rules) (list : List (List ℕ)) (written : List Eve
   pub remaining : List Listed
   pub from : ℕ
   pub repairs : AreReported rules list written numbers plays (below_of numbers) from 1 reported remaining
+  pub all : count_walked rules written walk * length written ≤ 500000 → from ≡ 0
   pub chosen : IsAmountOf numbers reported amount
 
 -- that of a record, with the record

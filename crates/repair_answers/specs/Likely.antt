@@ -1,5 +1,5 @@
 -- The repair of a record that is likelier than all others by far.
-use Rattle.std.specs.Prelude.{◌≡◌, ℕ, Bool, true, List, [], ◌∷◌, Option, Some, None, Result, Ok, Err}
+use Rattle.std.specs.Prelude.{◌≡◌, ℕ, ◌*◌, ◌≤◌, Bool, true, List, [], ◌∷◌, length, Option, Some, None, Result, Ok, Err}
 use Rattle.ref_tiles.specs.declared.rulebook.Rules.{Rules}
 use Rattle.gcg_read.specs.declared.events.Event.{Event}
 use Rattle.gcg_read.specs.declared.faults.ReadFault.{ReadFault}
@@ -20,6 +20,7 @@ use Rattle.repair_answers.specs.Alike.{cost_in}
 use Rattle.repair_answers.specs.Choices.{all_known, IsFirst, HasRival, IsAheadOfNumbers, IsFarBelowSheets, IsSheetChosen, IsNoneChosen}
 use Rattle.repair_answers.specs.Sheets.{sheet_room, slips_tried, AreSheetRepairs}
 use Rattle.repair_answers.specs.Trades.{AreReported}
+use Rattle.repair_answers.specs.Tried.{count_walked}
 use Rattle.repair_answers.specs.Unchanged.{IsUnchanged}
 use Rattle.repair_answers.specs.declared.numbers_alone.NumbersAlone.{NumbersAlone}
 use Rattle.repair_answers.specs.declared.sheet_repair.SheetRepair.{SheetRepair}
@@ -54,7 +55,8 @@ IsFirstSheet (first ∷ rest) likely = likely ≡ Some (likely_one.Sheet first)
 
 -- The likely repair of a record: the first of four, if it is ahead by at least a wrong number of the others, but for those that only say less, of the
 -- slips of the whole sheet and of correcting only the numbers, and if no two changes that were found cost less; or the slip of the whole sheet that is
--- ahead of all of them, without which every number is right. Some plays that a search found may have been tried in addition to the changes of the list.
+-- ahead of all of them, without which every number is right. All changes of the list are tried, if they are no more than 500,000 when each is counted once
+-- for each event. Some plays that a search found may have been tried in addition.
 pub record IsLikely (rules : Rules) (list : List (List ℕ)) (text : List ℕ) (written : List Event) (likely : Option Likely) : Type 0 where
   pub numbers : Option NumbersAlone
   pub alone : IsUnchanged rules list written numbers
@@ -66,6 +68,7 @@ pub record IsLikely (rules : Rules) (list : List (List ℕ)) (text : List ℕ) (
   pub remaining : List Listed
   pub from : ℕ
   pub repairs : AreReported rules list written numbers plays (below_of numbers) from 4 reported remaining
+  pub all : count_walked rules written walk * length written ≤ 500000 → from ≡ 0
   pub two : Pairs
   pub pairs : ArePairs rules list written reported 1 two
   pub sheets : List SheetRepair

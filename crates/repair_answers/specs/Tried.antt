@@ -15,10 +15,10 @@ count_before rules events place = length (flat_map (changes_at rules events) (ra
 abbrev pub count_walked : Rules → List Event → Walk → ℕ
 count_walked rules events walk = count_before rules events (length walk.rows.items + 1)
 
--- How many steps the search may take, about as many as the events that it goes over: as many as it needs if the changes, each counted once for each event,
--- are no more than 4,000,000, and so many otherwise.
-abbrev pub limit_for : (many events : ℕ) → Option ℕ
-limit_for many events = if nat_le (many * events) 4000000 then None else Some 4000000
+-- How many steps a search may take, about as many as the events that it goes over: as many as it needs if the changes, each counted once for each event,
+-- are no more than `steps`, and so many otherwise.
+abbrev pub limit_for : (many events steps : ℕ) → Option ℕ
+limit_for many events steps = if nat_le (many * events) steps then None else Some steps
 
 -- how many changes are not tried, if the changes from a place on are: those before it
 abbrev pub count_untried : Rules → List Event → Walk → (from : ℕ) → ℕ

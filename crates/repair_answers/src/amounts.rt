@@ -5,6 +5,7 @@ ghost use Rattle.repair_answers.specs.Amounts.{is_of_amount, explains, IsAmountO
 
 use crate::answers::below_of;
 use crate::choices::cost_of;
+use crate::lists::limit_within;
 use crate::no_change::unchanged;
 use crate::numbers_alone::NumbersAlone;
 use crate::singles::first_repairs;
@@ -16,7 +17,7 @@ use repair_changes::{MissingLine, Slip};
 use repair_single::{Found, Repair};
 use std::alloc::{AllocError, Global};
 
-/// How many steps the search may take: about as many as the events that it goes over.
+/// How many steps the search may take at least: about as many as the events that it goes over.
 const STEPS: u64 = 500_000;
 
 /// Whether a slip is one of a bonus for a challenge or of a penalty for time: it is missing, or it is another amount.
@@ -55,7 +56,8 @@ fn amount_among(alone: &Option<NumbersAlone>, found: Found) -> Option<Repair>
 }
 
 /// The first repair of a record, if it is one of a bonus or a penalty and, where the record is a game once its numbers are corrected, costs less than
-/// that: so a wrong total may not be wrong. Afterwards the record is as it was.
+/// that: so a wrong total may not be wrong. Each change is tried if the changes, each counted once for each event, are no more than 500,000. Afterwards the
+/// record is as it was.
 ///
 /// It fails only if memory runs out.
 pub fn amount_repair(
@@ -67,10 +69,11 @@ pub fn amount_repair(
     ensures amount { IfOk result (IsAmount rules.now (list_in pair.now) game.old.events) }
     ensures same { OnOk result (game.new ≡ game.old) }
 {
-    let alone = unchanged(alloc, rules, pair.list(), game)?;
+    let list = pair.list();
+    let alone = unchanged(alloc, rules, list, game)?;
     let below = below_of(&alone);
-    let walk = walk_as_written(alloc, rules, pair.list(), &mut game.events)?;
-    let limit = Some(STEPS);
+    let walk = walk_as_written(alloc, rules, list, &mut game.events)?;
+    let limit = limit_within(alloc, rules, list, &walk, game.events.as_slice(), STEPS)?;
     let singles = first_repairs(
         alloc,
         rules,

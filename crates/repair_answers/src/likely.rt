@@ -8,6 +8,7 @@ ghost use Rattle.repair_answers.specs.Likely.{IsFirstChange, IsFirstSheet, IsLik
 
 use crate::answers::below_of;
 use crate::choices::{Choice, choice_among};
+use crate::lists::limit_within;
 use crate::no_change::unchanged;
 use crate::numbers_alone::NumbersAlone;
 use crate::sheet_repair::SheetRepair;
@@ -25,7 +26,7 @@ use std::alloc::{AllocError, Global};
 /// How many repairs are looked for: the first, two that only say less, and another one.
 const WANTED: usize = 4;
 
-/// How many steps the search for single changes may take: about as many as the events that it goes over.
+/// How many steps the search for single changes may take at least: about as many as the events that it goes over.
 const STEPS: u64 = 500_000;
 
 /// How many steps each search for the second of two changes may take.
@@ -96,7 +97,8 @@ fn chosen(
 
 /// The likely repair of a record, given the walk over it and its text: the first, if it is ahead by at least a wrong number of all others, but for those that only say less, of the
 /// slips of the whole sheet and the record with only its numbers corrected, and if no two changes cost less; or a slip of the whole sheet that is ahead of
-/// all of them, without which every number is right. There is none if the search took too many steps to try each change. Afterwards the record is as it was.
+/// all of them, without which every number is right. There is none if the search took too many steps to try each change, but each is tried if the changes,
+/// each counted once for each event, are no more than 500,000. Afterwards the record is as it was.
 ///
 /// It fails only if memory runs out.
 fn likely_repair(
@@ -114,7 +116,7 @@ fn likely_repair(
     let list = pair.list();
     let alone = unchanged(alloc, rules, list, game)?;
     let below = below_of(&alone);
-    let limit = Some(STEPS);
+    let limit = limit_within(alloc, rules, list, walk, game.events.as_slice(), STEPS)?;
     let singles = first_repairs(
         alloc,
         rules,

@@ -60,21 +60,41 @@ fn count_before(
     Ok(many)
 }
 
-/// How many steps the search for repairs may take: as many as it needs, if the changes, each counted once for each event, are few enough.
-fn limit_for(many: u128, events: usize) -> Option<u64>
-    ensures { result ≡ limit_for many events }
+/// How many steps a search for repairs may take: as many as it needs, if the changes, each counted once for each event, are no more than `steps`.
+fn limit_for(many: u128, events: usize, steps: u64) -> Option<u64>
+    ensures { result ≡ limit_for many events steps }
 {
-    if many.saturating_mul(events as u128) <= STEPS as u128 {
+    if many.saturating_mul(events as u128) <= steps as u128 {
         None
     } else {
-        Some(STEPS)
+        Some(steps)
     }
+}
+
+/// How many steps a search for repairs of a record may take: as many as it needs, if the changes, each counted once for each event, are no more than `steps`,
+/// and so many otherwise.
+///
+/// It fails only if memory runs out.
+#[tactic(auto, using(crate::proofs::Tries::no_limit))]
+pub(crate) fn limit_within(
+    alloc: Global,
+    rules: &Rules,
+    list: &WordList,
+    walk: &Walk,
+    events: &[Event],
+    steps: u64,
+) -> Result<Option<u64>, AllocError>
+    requires { IsWalkOf rules.now list.now events.now walk.now }
+    ensures { IfOk result (λ limit. count_walked rules.now events.now walk.now * length events.now ≤ steps → limit ≡ None) }
+{
+    let places = walk.rows.len() + 1;
+    let many = count_before(alloc, rules, list, walk, events, places)?;
+    Ok(limit_for(many, events.len(), steps))
 }
 
 /// How many steps the search for the repairs of a record may take.
 ///
 /// It fails only if memory runs out.
-#[tactic(auto, using(crate::proofs::Tries::no_limit))]
 pub fn search_limit(
     alloc: Global,
     rules: &Rules,
@@ -85,9 +105,7 @@ pub fn search_limit(
     requires { IsWalkOf rules.now list.now events.now walk.now }
     ensures { IfOk result (λ limit. count_walked rules.now events.now walk.now * length events.now ≤ 4000000 → limit ≡ None) }
 {
-    let places = walk.rows.len() + 1;
-    let many = count_before(alloc, rules, list, walk, events, places)?;
-    Ok(limit_for(many, events.len()))
+    limit_within(alloc, rules, list, walk, events, STEPS)
 }
 
 /// How many changes of a record there are, and how many of them are tried.

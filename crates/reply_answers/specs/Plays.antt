@@ -1,6 +1,7 @@
 -- The best plays that a request asks for.
-use Rattle.std.specs.Prelude.{ℕ, min, List, Option, Some, None, Result, Ok, Err}
+use Rattle.std.specs.Prelude.{ℕ, min, List, Option, Some, None, option_map, Result, Ok, Err}
 use Rattle.ref_tiles.specs.declared.rulebook.Rules.{Rules}
+use Rattle.lex_list.specs.Lists.{capitals}
 use Rattle.engine_stages.specs.declared.decisions.Decision.{Decision}
 use Rattle.engine_stages.specs.declared.verdicts.Verdict.TheVariants as verdict
 use Rattle.engine_stages.specs.Reports.{bad_rack_line}
@@ -12,6 +13,10 @@ use Rattle.game_answers.specs.Tops.{AreTopPlaysOf}
 abbrev pub number_asked : Option ℕ → ℕ
 number_asked None = 10
 number_asked (Some number) = min number 100
+
+-- the bytes of a rack that is named, with its letters as capitals; none if none is named
+abbrev pub bytes_named : Option (List ℕ) → Option (List ℕ)
+bytes_named rack = option_map capitals rack
 
 -- that the rack is not one
 abbrev pub IsNoRack : Result FoundPlays Decision → Type 0

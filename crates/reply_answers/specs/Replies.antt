@@ -2,7 +2,6 @@
 use Rattle.std.specs.Prelude.{◌≡◌, ℕ, Bool, List, length, Option}
 use Rattle.std.specs.Option.{option_copied}
 use Rattle.ref_tiles.specs.declared.rulebook.Rules.{Rules}
-use Rattle.reply_racks.specs.Racks.{bytes_named}
 use Rattle.sheet_notes.specs.Notes.{IsAnnotatedSheet}
 use Rattle.page_answers.specs.Pages.{IsPagedCase}
 use Rattle.page_answers.specs.declared.makers.Maker.{Maker}
@@ -19,7 +18,7 @@ use Rattle.reply_requests.specs.declared.requests.Request.TheVariants as request
 use Rattle.reply_answers.specs.declared.replies.Reply.{Reply}
 use Rattle.reply_answers.specs.declared.replies.Reply.TheVariants as reply
 use Rattle.reply_answers.specs.Given.{read_of}
-use Rattle.reply_answers.specs.Plays.{number_asked, ArePlaysBy}
+use Rattle.reply_answers.specs.Plays.{bytes_named, number_asked, ArePlaysBy}
 use Rattle.reply_answers.specs.Tidied.{IsTidiedOf}
 use Rattle.reply_answers.specs.Words.{IsRuledOn}
 

@@ -1,15 +1,14 @@
 //! The best plays that a request asks for.
-ghost use Rattle.std.specs.Prelude.{◌≡◌, ◌≤◌, IfOk};
+ghost use Rattle.std.specs.Prelude.{◌≡◌, ◌≤◌, IfOk, option_map};
 ghost use Rattle.std.specs.Option.{option_copied};
 ghost use Rattle.lex_check.specs.Pairs.{list_in};
 ghost use Rattle.engine_stages.specs.declared.verdicts.Verdict.TheVariants as verdict;
 ghost use Rattle.engine_stages.specs.Reports.{bad_rack_line};
 ghost use Rattle.engine_stages.specs.Reporting.{IsReported};
-ghost use Rattle.reply_racks.specs.Racks.{bytes_named};
 ghost use Rattle.engine.specs.TopBefore.{given_rack};
 ghost use Rattle.game_answers.specs.Tops.{AreTopPlaysOf};
 ghost use Rattle.reply_answers.specs.Given.{FailsForMemoryAlone, read_of};
-ghost use Rattle.reply_answers.specs.Plays.{number_asked, ArePlaysBy};
+ghost use Rattle.reply_answers.specs.Plays.{bytes_named, number_asked, ArePlaysBy};
 
 use crate::records::GivenRecord;
 use engine::TurnPlays;
@@ -18,8 +17,8 @@ use game_answers::{FoundPlays, top_plays};
 use game_report::MOST_PLAYS;
 use gcg_read::read_rack;
 use lex_check::Checked;
+use lex_rulings::push_capitals;
 use ref_tiles::{Counts, Rules};
-use reply_racks::rack_in_capitals;
 use std::alloc::{AllocError, Global};
 
 /// How many plays are given if no number is requested.
@@ -34,6 +33,18 @@ fn number_asked(number: Option<u32>) -> usize
         None => USUAL_PLAYS,
         Some(number) => (number as usize).min(MOST_PLAYS),
     }
+}
+
+/// The bytes of a rack that is named, with its letters as capitals; none if none is named.
+fn rack_in_capitals(alloc: Global, rack: Option<&str>) -> Result<Option<Vec<u8>>, AllocError>
+    ensures { IfOk result (λ named. option_map (λ tiles. tiles.items) named ≡ bytes_named (option_copied rack.entry)) }
+{
+    let Some(rack) = rack else {
+        return Ok(None);
+    };
+    let mut tiles = Vec::new(alloc);
+    push_capitals(&mut tiles, rack.as_bytes())?;
+    Ok(Some(tiles))
 }
 
 /// The rack that is named, if one is; `None` if what is named is not a rack.

@@ -8,6 +8,7 @@ use Rattle.engine_stages.specs.declared.faults.RunFault.{RunFault}
 use Rattle.engine_stages.specs.declared.faults.RunFault.TheVariants as run
 use Rattle.engine_stages.specs.declared.verdicts.Verdict.{Verdict}
 use Rattle.engine_stages.specs.declared.verdicts.Verdict.TheVariants as verdict
+use Rattle.engine_stages.specs.Reporting.{IsLater}
 use Rattle.engine_stages.specs.Runs.{Gives, outcomes}
 use Rattle.engine_stages.specs.Sources.{game_source}
 use Rattle.engine_stages.specs.Stages.{IsRead}
@@ -16,6 +17,7 @@ use Rattle.reply_requests.specs.declared.requests.Request.{Request}
 use Rattle.reply_requests.specs.declared.tasks.Task.{Task}
 use Rattle.reply_answers.specs.declared.replies.Reply.{Reply}
 use Rattle.reply_calls.specs.Found.{IsReplyBy, IsReplyOn, IsReplyOnBoth, IsBoardOn, IsBoardFound, IsFoundAlone, IsFoundOn, IsFoundOnSecond, IsFoundOnBoth}
+use Rattle.reply_calls.specs.laws.Later.{later_as}
 
 -- what a sheet gives: its bytes
 abbrev AreItems : {B : Type 0} → (items : B → List ℕ) → List ℕ → B → Type 0
@@ -117,3 +119,11 @@ pub no_first : {B : Type 0} (items : B → List ℕ) (old new second : Device) (
     → Gives outcomes (game_source old new ∷ game_source second second ∷ []) (IsFoundOnBoth merged draft rules list) (Err fault)
 no_first items old new second merged draft rules list fault read =
     gives_failed outcomes (game_source old new) (game_source second second ∷ []) (AreItems items) (IsFoundOnBoth merged draft rules list) fault read (refl, tt)
+
+-- the board of a sheet does not say that an input that is read before it is bad
+pub board_later : (line : Option ℕ) (draft : Bool) (rules : Rules) (found : Result Reply Decision) (texts : List (List ℕ)) (v : Verdict) (report : List ℕ)
+    → IsBoardFound line draft rules found texts v report → IsLater v
+board_later line draft rules (Ok reply) [] v report is = absurd is
+board_later line draft rules (Ok reply) (text ∷ []) v report is = later_as v is.1.verdict_is
+board_later line draft rules (Ok reply) (text ∷ more ∷ rest) v report is = absurd is
+board_later line draft rules (Err d) texts v report is = absurd is

@@ -1,12 +1,12 @@
 -- What is found of the sheets that a call reads.
-use Rattle.std.proofs.Common.{◌≡◌, sym, subst, ℕ, Bool, List, [], ◌∷◌, length, Option, Result, Ok, Err}
+use Rattle.std.specs.Prelude.{◌≡◌, ℕ, Bool, List, [], length, Option, Result, Ok, Err}
 use Rattle.std.specs.Borrow.{Bor}
 use Rattle.ref_tiles.specs.declared.rulebook.Rules.{Rules}
 use Rattle.engine_stages.specs.declared.decisions.Decision.{Decision}
 use Rattle.engine_stages.specs.declared.verdicts.Verdict.{Verdict}
 use Rattle.engine_stages.specs.declared.verdicts.Verdict.TheVariants as verdict
 use Rattle.engine_stages.specs.Reading.{ReadsNoMore, ReadsNext}
-use Rattle.engine_stages.specs.Reporting.{IsReported, IsLater}
+use Rattle.engine_stages.specs.Reporting.{IsReported}
 use Rattle.page_answers.specs.declared.makers.Maker.{Maker}
 use Rattle.reply_requests.specs.declared.tasks.Task.{Task}
 use Rattle.reply_requests.specs.declared.requests.Request.{Request}
@@ -68,43 +68,3 @@ pub record IsBoardOn (rules : Rules) (line : Option ℕ) (draft : Bool) (text : 
 abbrev pub IsBoardFound : (line : Option ℕ) → (draft : Bool) → Rules → Result Reply Decision → (texts : List (List ℕ)) → Verdict → List ℕ → Type 0
 IsBoardFound line draft rules (Ok reply) texts v report = ReadsNext (λ text. ReadsNoMore (λ w said. IsBoardOn rules line draft text reply × IsReported verdict.Done [] w said)) texts v report
 IsBoardFound line draft rules (Err d) texts v report = ⊥
-
--- ---- none of these says that an input that is read before is bad
-
-done_later : IsLater verdict.Done
-done_later = record { rules = λ bad. cc; words = λ bad. cc; lexicon = λ bad. cc }
-
-later_as : (v : Verdict) → v ≡ verdict.Done → IsLater v
-later_as v is = subst IsLater (sym is) done_later
-
-pub alone_later : (asked : Request) (rules : Rules) (list : List (List ℕ)) (found : Result Reply Decision) (texts : List (List ℕ)) (v : Verdict) (report : List ℕ)
-    → IsFoundAlone asked rules list found texts v report → IsLater v
-alone_later asked rules list (Ok reply) [] v report is = later_as v is.1.verdict_is
-alone_later asked rules list (Ok reply) (text ∷ rest) v report is = absurd is
-alone_later asked rules list (Err d) texts v report is = absurd is
-
-pub found_later : (asked : Task) (rules : Rules) (list : List (List ℕ)) (found : Result Reply Decision) (texts : List (List ℕ)) (v : Verdict) (report : List ℕ)
-    → IsFoundOn asked rules list found texts v report → IsLater v
-found_later asked rules list (Ok reply) [] v report is = absurd is
-found_later asked rules list (Ok reply) (text ∷ []) v report is = later_as v is.1.verdict_is
-found_later asked rules list (Ok reply) (text ∷ more ∷ rest) v report is = absurd is
-found_later asked rules list (Err d) texts v report is = absurd is
-
-pub board_later : (line : Option ℕ) (draft : Bool) (rules : Rules) (found : Result Reply Decision) (texts : List (List ℕ)) (v : Verdict) (report : List ℕ)
-    → IsBoardFound line draft rules found texts v report → IsLater v
-board_later line draft rules (Ok reply) [] v report is = absurd is
-board_later line draft rules (Ok reply) (text ∷ []) v report is = later_as v is.1.verdict_is
-board_later line draft rules (Ok reply) (text ∷ more ∷ rest) v report is = absurd is
-board_later line draft rules (Err d) texts v report is = absurd is
-
-pub second_later : (merged draft : Bool) (rules : Rules) (list : List (List ℕ)) (one : List ℕ) (found : Result Reply Decision) (texts : List (List ℕ)) (v : Verdict) (report : List ℕ)
-    → IsFoundOnSecond merged draft rules list one found texts v report → IsLater v
-second_later merged draft rules list one (Ok reply) [] v report is = absurd is
-second_later merged draft rules list one (Ok reply) (other ∷ []) v report is = later_as v is.1.verdict_is
-second_later merged draft rules list one (Ok reply) (other ∷ more ∷ rest) v report is = absurd is
-second_later merged draft rules list one (Err d) texts v report is = absurd is
-
-pub both_later : (merged draft : Bool) (rules : Rules) (list : List (List ℕ)) (found : Result Reply Decision) (texts : List (List ℕ)) (v : Verdict) (report : List ℕ)
-    → IsFoundOnBoth merged draft rules list found texts v report → IsLater v
-both_later merged draft rules list found [] v report is = absurd is
-both_later merged draft rules list found (one ∷ rest) v report is = second_later merged draft rules list one found rest v report is

@@ -1,3 +1,4 @@
 pub mod Endings
 pub mod Found
 pub mod Calls
+pub mod laws

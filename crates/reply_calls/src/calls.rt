@@ -25,7 +25,8 @@ use std::alloc::Global;
 ///
 /// # Errors
 ///
-/// If an input failed or memory was refused; then nothing is written to `out`. Or if an output failed.
+/// If an input failed or memory was refused; then nothing is written to `out`. Or if an output failed: that of the text to be kept, and then nothing is
+/// written to `out`; or `out` itself, and then a prefix of the report is.
 #[tactic(auto, using(crate::proofs::Replying::replied, crate::proofs::Replying::stopped))]
 pub fn answer_request<
     S: RulesSource,
@@ -51,7 +52,7 @@ pub fn answer_request<
     ensures { IsReplying (pair_sources (S.known rules.old) (S.text rules.old) (S.text rules.new) (W.device words.old) (W.device words.new)
         (L.device lexicon.old) (L.device lexicon.new) [])
         (λ found. ReadsPair (S.known rules.old) (λ stated list. IsFoundAlone request.now stated list found))
-        (T.shows rendering.now) (K.holds kept.new) (O.device out.old) (O.device out.new) result }
+        (T.shows rendering.now) (K.holds kept.new) (K.has_failed kept.new) (O.device out.old) (O.device out.new) result }
 {
     let question = RequestQuestion {
         request,
@@ -71,7 +72,8 @@ pub fn answer_request<
 ///
 /// # Errors
 ///
-/// If an input failed or memory was refused; then nothing is written to `out`. Or if an output failed.
+/// If an input failed or memory was refused; then nothing is written to `out`. Or if an output failed: that of the text to be kept, and then nothing is
+/// written to `out`; or `out` itself, and then a prefix of the report is.
 #[tactic(auto, using(crate::proofs::Replying::replied, crate::proofs::Replying::stopped))]
 pub fn answer_sheet<
     S: RulesSource,
@@ -100,7 +102,7 @@ pub fn answer_sheet<
     ensures { IsReplying (pair_sources (S.known rules.old) (S.text rules.old) (S.text rules.new) (W.device words.old) (W.device words.new)
         (L.device lexicon.old) (L.device lexicon.new) (game_source (G.device sheet.old.sheet) (G.device sheet.new.sheet) ∷ []))
         (λ found. ReadsPair (S.known rules.old) (λ stated list. IsFoundOn task.entry stated list found))
-        (T.shows rendering.now) (K.holds kept.new) (O.device out.old) (O.device out.new) result }
+        (T.shows rendering.now) (K.holds kept.new) (K.has_failed kept.new) (O.device out.old) (O.device out.new) result }
 {
     let question = SheetQuestion {
         task,
@@ -119,7 +121,8 @@ pub fn answer_sheet<
 ///
 /// # Errors
 ///
-/// If an input failed or memory was refused; then nothing is written to `out`. Or if an output failed.
+/// If an input failed or memory was refused; then nothing is written to `out`. Or if an output failed: that of the text to be kept, and then nothing is
+/// written to `out`; or `out` itself, and then a prefix of the report is.
 #[tactic(auto, using(crate::proofs::Replying::replied, crate::proofs::Replying::stopped))]
 pub fn answer_sheets<
     S: RulesSource,
@@ -151,7 +154,7 @@ pub fn answer_sheets<
         (L.device lexicon.old) (L.device lexicon.new)
         (game_source (G.device sheets.old.first) (G.device sheets.new.first) ∷ game_source (G.device sheets.old.second) (G.device sheets.new.second) ∷ []))
         (λ found. ReadsPair (S.known rules.old) (λ stated list. IsFoundOnBoth merged draft stated list found))
-        (T.shows rendering.now) (K.holds kept.new) (O.device out.old) (O.device out.new) result }
+        (T.shows rendering.now) (K.holds kept.new) (K.has_failed kept.new) (O.device out.old) (O.device out.new) result }
 {
     let question = SheetsQuestion {
         merged,
@@ -172,7 +175,8 @@ pub fn answer_sheets<
 ///
 /// # Errors
 ///
-/// If an input failed or memory was refused; then nothing is written to `out`. Or if an output failed.
+/// If an input failed or memory was refused; then nothing is written to `out`. Or if an output failed: that of the text to be kept, and then nothing is
+/// written to `out`; or `out` itself, and then a prefix of the report is.
 #[tactic(auto, using(crate::proofs::Replying::replied, crate::proofs::Replying::stopped))]
 pub fn answer_board<S: RulesSource, G: Input, T: Rendering, K: Outlet, O: Output>(
     alloc: Global,
@@ -189,7 +193,7 @@ pub fn answer_board<S: RulesSource, G: Input, T: Rendering, K: Outlet, O: Output
     requires out { HasRoom (O.device out.old) }
     ensures { IsReplying (rules_sources (S.known rules.old) (S.text rules.old) (S.text rules.new) ++ game_source (G.device sheet.old) (G.device sheet.new) ∷ [])
         (λ found. ReadsRulesBut (S.known rules.old) (λ stated. IsBoardFound line draft stated found))
-        (T.shows rendering.now) (K.holds kept.new) (O.device out.old) (O.device out.new) result }
+        (T.shows rendering.now) (K.holds kept.new) (K.has_failed kept.new) (O.device out.old) (O.device out.new) result }
 {
     match find_board_by_rules(alloc, rules, sheet, line, draft) {
         Ok(found) => write_found(alloc, rendering, found, kept, out),

@@ -2,7 +2,8 @@
 ghost use Rattle.std.specs.Prelude.{⊤, ◌∷◌, [], refl};
 ghost use Rattle.io_devices.specs.Devices.{HasRoom};
 ghost use Rattle.engine_stages.specs.Sources.{game_source};
-ghost use Rattle.reply_calls.specs.Found.{IsFoundAlone, IsFoundOn, IsFoundOnBoth, alone_later, found_later, both_later};
+ghost use Rattle.reply_calls.specs.Found.{IsFoundAlone, IsFoundOn, IsFoundOnBoth};
+ghost use Rattle.reply_calls.specs.laws.Later.{alone_later, found_later, both_later};
 
 use crate::finding::{find_alone, find_on, find_on_both};
 use crate::renderings::PageMaker;

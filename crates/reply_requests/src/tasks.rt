@@ -5,7 +5,7 @@ ghost use Rattle.reply_requests.specs.Tasks.{request_of};
 use crate::requests::Request;
 
 /// What is asked of one game: a request without the text of the record.
-#[derive(Clone, Copy, Debug, PartialEq, Eq)]
+#[derive(Clone, Copy)]
 pub enum Task<'a> {
     /// [`Request::Judge`].
     Judge {

@@ -11,7 +11,7 @@ use gcg_read::{Event, Seat};
 use std::alloc::{AllocError, Global};
 
 /// A number of a sheet that is wrong, with its event and with what is right.
-#[derive(Clone, Copy, Debug, PartialEq, Eq)]
+#[derive(Clone, Copy)]
 pub enum ReportedNumber {
     /// A score is not the one that the rules give.
     Score {

@@ -18,7 +18,8 @@ use Rattle.lex_file.specs.MaskShapes.{nodes_fault}
 use Rattle.lex_file.specs.Shapes.{format_of, arcs_fault, body_fault, header_fault_by, header_fault, mask_header_fault, form_fault, fault_of, root_of, count_of, nodes_by, names_node, file_node, is_file_node}
 use Rattle.lex_file.specs.Lexicons.{is_label}
 use Rattle.lex_file.specs.Languages.{tail_in, file_tail}
-use Rattle.lex_file.specs.Graphs.{IsSoundGraph, labels_in, bounded_in}
+use Rattle.lex_file.specs.Graphs.{IsSoundGraph}
+use Rattle.lex_file.specs.laws.Graphs.{labels_in, bounded_in}
 use Rattle.lex_file.specs.laws.Nodes.{gad1_graph}
 use Rattle.lex_file.specs.laws.Masks.{gad2_graph}
 

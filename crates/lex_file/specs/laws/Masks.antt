@@ -11,7 +11,8 @@ use Rattle.lex_file.specs.declared.arcs.Arc.{Arc}
 use Rattle.lex_file.specs.declared.faults.FileFault.{FileFault}
 use Rattle.lex_file.specs.declared.faults.FileFault.TheVariants as why
 use Rattle.lex_file.specs.Formats.{most_body_words}
-use Rattle.lex_file.specs.Graphs.{IsSoundArc, AreRising, IsSoundGraph, first_or_other, none_there, or_cases}
+use Rattle.lex_file.specs.Graphs.{IsSoundArc, AreRising, IsSoundGraph}
+use Rattle.lex_file.specs.laws.Graphs.{first_or_other, none_there, or_cases}
 use Rattle.lex_file.specs.Masks.{has_bit, is_marked, labels_below, label_count, node_size, mask_arc, arcs_among, mask_node, is_mask_node}
 use Rattle.lex_file.specs.MaskShapes.{is_mask, accepts_labels, points_back, label_fault, labels_fault, node_fault, nodes_fault}
 

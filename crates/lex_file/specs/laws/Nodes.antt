@@ -10,7 +10,8 @@ use Rattle.lex_file.specs.Arcs.{arc_of, is_last}
 use Rattle.lex_file.specs.Formats.{greatest_label}
 use Rattle.lex_file.specs.Nodes.{run_of, node_at, begins, is_first, is_node, start_at}
 use Rattle.lex_file.specs.Shapes.{label_before, leads_back, arc_fault, arcs_fault}
-use Rattle.lex_file.specs.Graphs.{IsSoundArc, AreRising, IsSoundGraph, first_or_other, none_there, or_cases}
+use Rattle.lex_file.specs.Graphs.{IsSoundArc, AreRising, IsSoundGraph}
+use Rattle.lex_file.specs.laws.Graphs.{first_or_other, none_there, or_cases}
 
 -- ---- arcs without a fault
 

@@ -283,7 +283,7 @@ const SHORT_RACKS: [&str; 5] = [
     "\
 illegal line 2: TilesShort ?
 line 2: >B: ? - +0 0
-The game has 2 of the tile ?, but by the lines below there would have to be 3: 0 on the board, 2 on A's rack and 1 on B's.
+The game has 2 of the tile ?, but by what the lines up to this one show there would have to be 3: 0 on the board, 2 on A's rack and 1 on B's.
   line 1 shows 2 on A's rack
   line 2 shows 1 on B's rack
 board before line 2

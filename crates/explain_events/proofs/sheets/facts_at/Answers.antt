@@ -2,6 +2,7 @@ use Rattle.std.proofs.Common.{subst}
 use Rattle.explain_events.specs.Judging.{IsJudgedAt}
 use Rattle.explain_facts.proofs.Beginnings.{each_ok}
 use Rattle.explain_events.proofs.Ruling.{of_allowed, of_refused, of_later}
+use Rattle.explain_events.proofs.Bounding.{any_ok, none_due, one_refused, one_before}
 use Rattle.explain_events.proofs.sheets.facts_at.Goals as goal
 
 pub allowed_facts-requires-clause-state : goal.allowed_facts-requires-clause-state
@@ -31,6 +32,13 @@ refused_facts-requires-clause-fails c =
     let arm = c.in-Some-Refused in
     let events = sheet.record.now.events in
     (subst (IsJudgedAt sheet.rules.now sheet.list.now events c.args.place) arm.field-0-is (arm.ensures sheet.rules.now sheet.list.now events c.requires.walk c.requires.within)).1
+
+pub refused_facts-requires-clause-allowed : goal.refused_facts-requires-clause-allowed
+refused_facts-requires-clause-allowed c =
+    let sheet = c.args.sheet.now in
+    let arm = c.in-Some-Refused in
+    let events = sheet.record.now.events in
+    (subst (IsJudgedAt sheet.rules.now sheet.list.now events c.args.place) arm.field-0-is (arm.ensures sheet.rules.now sheet.list.now events c.requires.walk c.requires.within)).2
 
 pub unjudged_facts-requires : goal.unjudged_facts-requires
 unjudged_facts-requires c =
@@ -65,3 +73,21 @@ returns-in-Some-After-clause-ruling c =
 
 pub returns-in-None : goal.returns-in-None
 returns-in-None c = absurd (c.in-None.ensures c.args.sheet.now.rules.now c.args.sheet.now.list.now c.args.sheet.now.record.now.events c.requires.walk c.requires.within)
+
+pub returns-in-Some-Refused-clause-racks : goal.returns-in-Some-Refused-clause-racks
+returns-in-Some-Refused-clause-racks c =
+    let sheet = c.args.sheet.now in
+    let arm = c.in-Some-Refused in
+    let events = sheet.record.now.events in
+    let how = subst (IsJudgedAt sheet.rules.now sheet.list.now events c.args.place) arm.field-0-is (arm.ensures sheet.rules.now sheet.list.now events c.requires.walk c.requires.within) in
+    any_ok _ c.refused_facts.result (λ facts. none_due sheet.rules.now sheet.list.now events c.args.place _ facts.items
+    (one_refused sheet.rules.now sheet.list.now events c.args.place _ c.requires.within how.1))
+
+pub returns-in-Some-After-clause-racks : goal.returns-in-Some-After-clause-racks
+returns-in-Some-After-clause-racks c =
+    let sheet = c.args.sheet.now in
+    let arm = c.in-Some-After in
+    let events = sheet.record.now.events in
+    let how = subst (IsJudgedAt sheet.rules.now sheet.list.now events c.args.place) arm.field-0-is (arm.ensures sheet.rules.now sheet.list.now events c.requires.walk c.requires.within) in
+    any_ok _ c.unjudged_facts.result (λ facts. none_due sheet.rules.now sheet.list.now events c.args.place _ facts.items
+    (one_before sheet.rules.now sheet.list.now events c.args.place _ how.0 c.requires.within how.1))

@@ -2,7 +2,7 @@ use Rattle.std.proofs.Common.{◌+◌, List, take, drop, refl, ap, ◌∙◌}
 use Rattle.gcg_read.specs.declared.events.Event.{Event}
 use Rattle.game_turns.specs.Machines.{state_of}
 use Rattle.explain_events.proofs.Refusing.{fails_in, all_at}
-use Rattle.explain_events.proofs.Ruling.{adds_up}
+use Rattle.explain_events.proofs.Ruling.{adds_up, allowed_before}
 use Rattle.explain_events.proofs.sheets.refused_facts.Goals as goal
 
 pub rule_fault_facts-requires : goal.rule_fault_facts-requires
@@ -30,6 +30,8 @@ returns-clause-reported c =
 pub returns-clause-first : goal.returns-clause-first
 returns-clause-first c =
     let sheet = c.args.sheet.now in
-    c.in_ok-facts.ensures.first
-    (adds_up sheet.rules.now sheet.record.now.events _ c.args.place c.args.event.now (state_of c.args.machine.now) c.requires.stands c.requires.state
-    (ap (λ (events : List Event). take c.args.place events) c.as_slice-events.ensures))
+    let front = ap (λ (events : List Event). take c.args.place events) c.as_slice-events.ensures in
+    c.in_ok-facts.ensures.first (
+      adds_up sheet.rules.now sheet.record.now.events _ c.args.place c.args.event.now (state_of c.args.machine.now) c.requires.stands c.requires.state front,
+      allowed_before sheet.rules.now sheet.list.now sheet.record.now.events _ c.args.place front c.requires.allowed,
+    )

@@ -28,5 +28,6 @@ returns c =
       ahead = refl;
       next = next;
       found = sym c.in_ok-next.ensures;
+      gains = search (rules, ints);
       lacks = lacks (side_of s.sides c.other-player.result).total c.in_ok-had.had _ next.total next.score had (reported ∙ gap);
     }

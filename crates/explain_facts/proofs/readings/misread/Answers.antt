@@ -27,7 +27,7 @@ returns c =
     let stands = slice_get_read word (length word) c.args.place symbol refl c.in-Some.ensures.lookup.3.0 c.in-Some.ensures.lookup.1 in
     let is = read_as m c.board-board.result.now c.args.at c.args.dir word text c.args.place symbol other ps c.along.result c.byte.result c.byte-2.result
     (to_z w32 (of_z w32 c.score.result)) c.board-board.ensures stands c.along.ensures c.byte.ensures c.byte-2.ensures
-    same c.in-Ok.ensures.none c.in-Ok.ensures.tiles.1 (scored ∙ c.score.ensures) in
+    same c.in-Ok.ensures.none c.in-Ok.ensures.tiles.1 (scored ∙ c.score.ensures) (c.are_two_tiles.ensures c.if-not-are_two_tiles.false) in
     let on_rack : IsOnRack rack ps = search rules in
     let listed : list_all (is_listed m.list) items ≡ true = search rules in
     let spelled : letters_in c.in_ok-spelled.field-0.items ≡ items = search rules in

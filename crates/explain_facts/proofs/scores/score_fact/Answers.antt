@@ -4,13 +4,14 @@ use Rattle.game_turns.specs.Machines.{state_of}
 use Rattle.game_turns.specs.Tallies.{is_play, is_pass}
 use Rattle.explain_facts.specs.Kinds.{is_exchange, is_withdrawal}
 use Rattle.explain_facts.specs.Scores.{right_score}
+use Rattle.explain_facts.proofs.Because.{legal_play, doubled_of}
 use Rattle.explain_facts.proofs.Numbers.{scores_reported, none_given}
 use Rattle.explain_facts.proofs.scores.score_fact.Goals as goal
 
 pub returns-in-Play-clause-reported : goal.returns-in-Play-clause-reported
 returns-in-Play-clause-reported c =
     let e = c.args.scene.now.event.now in (
-      ap is_play c.in-Play.is,
+      legal_play c.args.scene.now.rules.now c.args.scene.now.list.now (state_of c.args.scene.now.machine.now) e c.args.right c.requires.fails (ap is_play c.in-Play.is),
       scores_reported c.args.scene.now.rules.now c.args.scene.now.list.now (state_of c.args.scene.now.machine.now) e c.args.right c.value-written.result _ _ c.requires.fails
           (to_z-of_z c.ranges.right) (to_z-of_z {w = w32} {z = c.value-written.result} (search (rules, ints))) c.value-written.ensures.value,
     )
@@ -36,7 +37,7 @@ returns-in-LastRack-clause-reported c =
     let e = c.args.scene.now.event.now in (
       c.in-LastRack.is,
       refl,
-      search rules,
+      doubled_of c.args.scene.now.rules.now c.args.scene.now.list.now (state_of c.args.scene.now.machine.now) e c.args.right _ _ c.requires.fails c.in-LastRack.is (search rules),
       scores_reported c.args.scene.now.rules.now c.args.scene.now.list.now (state_of c.args.scene.now.machine.now) e c.args.right c.value-written.result _ _ c.requires.fails
           (to_z-of_z c.ranges.right) (to_z-of_z {w = w32} {z = c.value-written.result} (search (rules, ints))) c.value-written.ensures.value,
     )

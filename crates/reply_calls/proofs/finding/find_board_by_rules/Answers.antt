@@ -3,7 +3,8 @@ use Rattle.engine_stages.specs.Reading.{ReadsRulesBut}
 use Rattle.engine_stages.specs.Runs.{outcomes}
 use Rattle.engine_stages.specs.Sources.{game_source}
 use Rattle.engine_stages.proofs.Answering.{asks_unruled, asks_bad_rules, asks_rules}
-use Rattle.reply_calls.specs.Found.{IsBoardFound, board_later}
+use Rattle.reply_calls.specs.Found.{IsBoardFound}
+use Rattle.reply_calls.proofs.SheetLaws.{board_later}
 use Rattle.reply_calls.proofs.finding.find_board_by_rules.Goals as goal
 
 pub returns-in-Ok-Ok : goal.returns-in-Ok-Ok

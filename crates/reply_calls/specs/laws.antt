@@ -1,0 +1,2 @@
+-- Proofs that the laws of impls need here.
+pub mod Later
