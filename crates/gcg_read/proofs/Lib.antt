@@ -1,4 +1,5 @@
 pub mod Lists
+pub mod AlikeLists
 pub mod Cuts
 pub mod Steps
 pub mod Fields

@@ -12,3 +12,4 @@ pub mod Records
 pub mod Changes
 pub mod FirstFaults
 pub mod Laws
+pub mod Alike

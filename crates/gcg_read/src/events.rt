@@ -70,6 +70,88 @@ pub enum EventKind {
     LastRack(Counts),
 }
 
+impl EventKind {
+    ghost use Rattle.gcg_read.specs.Alike.{IsPlayOf};
+    ghost use Rattle.gcg_read.specs.declared.events.EventKind.TheVariants as kind_of;
+
+    /// A copy of the kind.
+    pub fn copy(&self) -> EventKind
+        ensures { result ≡ self.now }
+    {
+        match self {
+            EventKind::Play { at, dir, word } => EventKind::Play {
+                at: *at,
+                dir: *dir,
+                word: word.copy(),
+            },
+            EventKind::Pass => EventKind::Pass,
+            EventKind::Exchange(tiles) => EventKind::Exchange(*tiles),
+            EventKind::ExchangeUnknown(number) => EventKind::ExchangeUnknown(*number),
+            EventKind::Withdraw => EventKind::Withdraw,
+            EventKind::Challenge => EventKind::Challenge,
+            EventKind::Time => EventKind::Time,
+            EventKind::LastRack(tiles) => EventKind::LastRack(*tiles),
+        }
+    }
+
+    /// Whether it is a play of this text from this square in this direction, in which a tile that was on the board may be a letter or a dot.
+    pub fn is_play_of(&self, at: Square, dir: Dir, word: &Text) -> bool
+        ensures { IsTrue result ↔ IsPlayOf self.now at dir word.now }
+    {
+        match self {
+            EventKind::Play {
+                at: square,
+                dir: way,
+                word: text,
+            } => *square == at && *way == dir && text.agrees(word),
+            _ => false,
+        }
+    }
+
+    /// Whether it is the play with these symbols from this square in this direction.
+    fn is_the_play(&self, at: Square, dir: Dir, word: &Text) -> bool
+        ensures { IsTrue result ↔ (self.now ≡ kind_of.Play at dir word.now) }
+    {
+        match self {
+            EventKind::Play {
+                at: square,
+                dir: way,
+                word: text,
+            } => *square == at && *way == dir && text.same(word),
+            _ => false,
+        }
+    }
+
+    /// Whether both are the same: of one kind, with the same squares, symbols, tiles and numbers.
+    pub fn same(&self, other: &EventKind) -> bool
+        ensures { IsTrue result ↔ (self.now ≡ other.now) }
+    {
+        match (self, other) {
+            (_, EventKind::Play { at, dir, word }) => self.is_the_play(*at, *dir, word),
+            (EventKind::Exchange(tiles), EventKind::Exchange(others)) => tiles == others,
+            (EventKind::ExchangeUnknown(many), EventKind::ExchangeUnknown(others)) => many
+                == others,
+            (EventKind::LastRack(tiles), EventKind::LastRack(others)) => tiles == others,
+            (EventKind::Pass, EventKind::Pass) => true,
+            (EventKind::Withdraw, EventKind::Withdraw) => true,
+            (EventKind::Challenge, EventKind::Challenge) => true,
+            (EventKind::Time, EventKind::Time) => true,
+            _ => false,
+        }
+    }
+}
+
+/// Whether both are the same tiles, or neither is stated.
+pub fn same_rack(rack: &Option<Counts>, other: &Option<Counts>) -> bool
+    ensures { IsTrue result ↔ (rack.now ≡ other.now) }
+{
+    match (rack, other) {
+        (None, None) => true,
+        (Some(tiles), Some(others)) => tiles == others,
+        (None, Some(_)) | (Some(_), None) => false,
+    }
+}
+
 /// One event line of a record.
 #[derive(Debug, Drop)]
 pub struct Event {
@@ -85,6 +167,34 @@ pub struct Event {
     pub score: Points,
     /// The player's total after it, as the line states it.
     pub total: Points,
+}
+
+impl Event {
+    ghost use Rattle.gcg_read.specs.Alike.{SayTheSame};
+
+    /// A copy of the event.
+    pub fn copy(&self) -> Event
+        ensures { result ≡ self.now }
+    {
+        Event {
+            line: self.line,
+            player: self.player,
+            rack: self.rack,
+            kind: self.kind.copy(),
+            score: self.score,
+            total: self.total,
+        }
+    }
+
+    /// Whether the lines of both say the same, whichever lines of a record they are and whichever player they name.
+    pub fn says_the_same(&self, other: &Event) -> bool
+        ensures { IsTrue result ↔ SayTheSame self.now other.now }
+    {
+        same_rack(&self.rack, &other.rack)
+            && self.score.value() == other.score.value()
+            && self.total.value() == other.total.value()
+            && self.kind.same(&other.kind)
+    }
 }
 
 /// The events of a record, in the order of their lines. Contracts see the list of them.
@@ -163,6 +273,16 @@ impl Events {
         ensures refused { OnErr result (self.new ≡ self.old) }
     {
         self.items.push(event)?;
+        Ok(())
+    }
+
+    /// Appends copies of events. It fails only if memory runs out.
+    pub fn push_copies(&mut self, more: &[Event]) -> Result<(), AllocError>
+        ensures { OnOk result (self.new ≡ self.old ++ more.now) }
+    {
+        for event in more {
+            self.push(event.copy())?;
+        }
         Ok(())
     }
 }

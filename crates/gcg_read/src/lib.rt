@@ -22,7 +22,7 @@ mod reading;
 mod records;
 mod texts;
 
-pub use events::{Event, EventKind, Events, Seat, same_seat};
+pub use events::{Event, EventKind, Events, Seat, same_rack, same_seat};
 pub use faults::{ReadFault, Why};
 pub use laws::{law_of_faults, law_of_lines};
 pub use names::Name;
