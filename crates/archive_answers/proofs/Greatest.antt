@@ -1,6 +1,6 @@
 -- The greatest of some statuses, and of one more.
 use Rattle.std.proofs.Common.{◌≡◌, ◌∙◌, ℕ, max, List, [], ◌∷◌, ◌++◌, map, ap, sym, arith}
-use Rattle.cli_exits.specs.Exits.{status_of}
+use Rattle.game_exits.specs.Exits.{status_of}
 use Rattle.archive_lines.specs.declared.fields.Fields.{Fields}
 use Rattle.archive_answers.specs.declared.runs.RunLines.{RunLines}
 use Rattle.archive_answers.specs.Exits.{status_of_line, greatest, EndsAfter}

@@ -1,8 +1,8 @@
 -- What a run has told, from its parts.
 use Rattle.std.proofs.Common.{◌≡◌, ◌∙◌, inl, inr, ℕ, max, Bool, List, is_some, Result, Ok, Err, OnOk, refl, sym, ap, subst}
 use Rattle.std.specs.Borrow.{Bor}
-use Rattle.cli_exits.specs.declared.exits.Exit.{Exit}
-use Rattle.cli_exits.specs.Exits.{status_of}
+use Rattle.game_exits.specs.declared.exits.Exit.{Exit}
+use Rattle.game_exits.specs.Exits.{status_of}
 use Rattle.archive_lines.specs.declared.answers.Unread.TheVariants as why
 use Rattle.archive_lines.specs.declared.fields.Fields.{Fields}
 use Rattle.archive_lines.specs.declared.pages.PageField.TheVariants as field

@@ -1,9 +1,9 @@
 -- How the program ends after the lines of an archive.
 use Rattle.std.specs.Prelude.{◌≡◌, ℕ, max, List, [], ◌∷◌, map, Option, Some, None}
-use Rattle.cli_exits.specs.declared.exits.Exit.{Exit}
-use Rattle.cli_exits.specs.declared.exits.Exit.TheVariants as exit
-use Rattle.cli_exits.specs.Archives.{exit_of_answer}
-use Rattle.cli_exits.specs.Exits.{status_of}
+use Rattle.game_exits.specs.declared.exits.Exit.{Exit}
+use Rattle.game_exits.specs.declared.exits.Exit.TheVariants as exit
+use Rattle.game_exits.specs.Archives.{exit_of_answer}
+use Rattle.game_exits.specs.Exits.{status_of}
 use Rattle.archive_lines.specs.declared.fields.Fields.{Fields}
 use Rattle.archive_lines.specs.declared.pages.PageField.{PageField}
 use Rattle.archive_lines.specs.declared.pages.PageField.TheVariants as field

@@ -3,7 +3,7 @@ use Rattle.std.specs.Prelude.{◌≡◌, ℕ, Bool, true, false, List, length, i
 use Rattle.std.specs.Borrow.{Bor}
 use Rattle.gcg_read.specs.declared.faults.ReadFault.{ReadFault}
 use Rattle.game_case.specs.declared.entries.Entry.{Entry}
-use Rattle.gcg_names.specs.Encodings.{encoding_of}
+use Rattle.gcg_about.specs.Encodings.{encoding_of}
 use Rattle.gcg_unread.specs.Lines.{unread_of}
 use Rattle.repair_answers.specs.declared.likely.Likely.{Likely}
 use Rattle.archive_lines.specs.declared.fields.Fields.{Fields}

@@ -8,9 +8,9 @@ use Rattle.game_case.specs.declared.findings.Finding.{Finding}
 use Rattle.game_case.specs.declared.findings.Finding.TheVariants as finding
 use Rattle.io_kinds.specs.declared.kinds.FileKind.{FileKind}
 use Rattle.io_kinds.specs.Kinds.{kind_of}
-use Rattle.gcg_names.specs.declared.encodings.Encoding.{Encoding}
-use Rattle.gcg_names.specs.Encodings.{encoding_of}
-use Rattle.gcg_names.specs.Texts.{text_by}
+use Rattle.gcg_about.specs.declared.encodings.Encoding.{Encoding}
+use Rattle.gcg_about.specs.Encodings.{encoding_of}
+use Rattle.gcg_about.specs.Texts.{text_by}
 use Rattle.gcg_about.specs.Pragmas.{first_said}
 use Rattle.archive_lines.specs.Players.{nick_of}
 use Rattle.archive_answers.specs.declared.words.RowWords.{RowWords}

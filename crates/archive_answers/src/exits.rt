@@ -1,10 +1,10 @@
 //! How the program ends after the line of a game.
 ghost use Rattle.std.specs.Prelude.{◌≡◌};
-ghost use Rattle.cli_exits.specs.Exits.{status_of};
+ghost use Rattle.game_exits.specs.Exits.{status_of};
 ghost use Rattle.archive_answers.specs.Exits.{exit_of_page, status_of_line};
 
 use archive_lines::{Fields, PageField};
-use cli_exits::{Exit, exit_of_answer};
+use game_exits::{Exit, exit_of_answer};
 
 /// How the program ends after the page of a game, if nothing else has a greater status.
 fn exit_of_page(page: &Option<PageField>) -> Exit

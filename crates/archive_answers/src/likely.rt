@@ -4,7 +4,7 @@ ghost use Rattle.archive_answers.specs.Lines.{has_repair, SaysChange, SaysLikely
 
 use archive_lines::LikelyFields;
 use game_case::Case;
-use gcg_names::Encoding;
+use gcg_about::Encoding;
 use gcg_read::Record;
 use repair_answers::Likely;
 use repair_lines::{push_likely_change, push_likely_numbers};

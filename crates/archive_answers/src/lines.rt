@@ -1,12 +1,12 @@
 //! What the line of a game says.
 ghost use Rattle.std.specs.Prelude.{◌≡◌, IfOk};
 ghost use Rattle.archive_lines.specs.Said.{SaysEntry};
-ghost use Rattle.gcg_names.specs.Encodings.{encoding_of};
+ghost use Rattle.gcg_about.specs.Encodings.{encoding_of};
 ghost use Rattle.archive_answers.specs.Lines.{count_unread, SaysRead, with_asked};
 
 use archive_lines::{Fields, LikelyFields, PageField};
 use game_case::{Case, Entry};
-use gcg_names::Encoding;
+use gcg_about::Encoding;
 use gcg_unread::unread_lines;
 use std::alloc::{AllocError, Global};
 

@@ -6,7 +6,7 @@ use crate::asked::Asked;
 use crate::exits::exit_of_line;
 use crate::games::{ArchivedGame, lost_game};
 use archive_lines::{Fields, push_json_line, push_tab_line};
-use cli_exits::Exit;
+use game_exits::Exit;
 use std::alloc::{AllocError, Global};
 
 /// Makes the line of these fields: a JSON object, or the fields with tabs between them.

@@ -1,13 +1,12 @@
 //! What the index of the pages says of a game that its line does not say.
 ghost use Rattle.std.specs.Prelude.{◌≡◌, IfOk, option_map};
 ghost use Rattle.std.specs.String.{string_bytes};
-ghost use Rattle.gcg_names.specs.Encodings.{encoding_of};
+ghost use Rattle.gcg_about.specs.Encodings.{encoding_of};
 ghost use Rattle.archive_lines.specs.Players.{nick_of};
 ghost use Rattle.archive_answers.specs.Words.{first_name, second_name, title_of, seems_in, AreWordsOf, no_words, AreWordsAsked};
 
 use game_case::{Case, Entry, Finding};
-use gcg_about::words_of;
-use gcg_names::Encoding;
+use gcg_about::{Encoding, words_of};
 use gcg_read::{Player, ReadFault};
 use io_kinds::FileKind;
 use std::alloc::{AllocError, Global};

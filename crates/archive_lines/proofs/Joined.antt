@@ -1,7 +1,7 @@
 -- A line is written field after field.
 use Rattle.std.proofs.Common.{◌≡◌, ℕ, List, [], ◌∷◌, ◌++◌, refl, ap, sym, ◌∙◌}
 use Rattle.std.proofs.lemmas.List.{append_assoc, append-nil}
-use Rattle.text_tabs.specs.Lines.{escaped, joined, line_text}
+use Rattle.archive_lines.specs.TabLines.{escaped, joined, line_text}
 use Rattle.archive_lines.specs.Tabs.{following}
 
 joined_is : (field : List ℕ) (fields : List (List ℕ)) → joined (field ∷ fields) ≡ escaped field ++ following fields

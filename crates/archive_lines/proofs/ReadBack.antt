@@ -1,6 +1,6 @@
 -- A reader has the fields of a line again.
 use Rattle.std.proofs.Common.{◌≡◌, ℕ, ◌∷◌, ◌++◌, length, Option, Some, None, refl, ap, ◌∙◌}
-use Rattle.text_tabs.proofs.ReadBack as lines
+use Rattle.archive_lines.proofs.TabReadBack as lines
 use Rattle.archive_lines.specs.declared.fields.Fields.{Fields}
 use Rattle.archive_lines.specs.declared.likely.LikelyFields.{LikelyFields}
 use Rattle.archive_lines.specs.declared.pages.PageField.{PageField}

@@ -1,7 +1,7 @@
 -- What holds of each line.
 use Rattle.std.specs.Prelude.{◌≡◌, ◌==◌, ℕ, true, not, length, Option, Some, None}
 use Rattle.std.specs.List.{list_all}
-use Rattle.text_tabs.specs.Lines.{joined, fields_read}
+use Rattle.archive_lines.specs.TabLines.{joined, fields_read}
 use Rattle.archive_lines.specs.declared.fields.Fields.{Fields}
 use Rattle.archive_lines.specs.declared.likely.LikelyFields.{LikelyFields}
 use Rattle.archive_lines.specs.declared.pages.PageField.{PageField}

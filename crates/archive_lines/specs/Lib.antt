@@ -7,3 +7,5 @@ pub mod Tabs
 pub mod Objects
 pub mod Said
 pub mod Laws
+pub mod TabLines
+pub mod TabLaws

@@ -8,7 +8,7 @@ use Rattle.gcg_read.specs.declared.faults.ReadFault.{ReadFault}
 use Rattle.gcg_read.specs.Faults as read
 use Rattle.game_corrections.specs.LastTotals.{last_total}
 use Rattle.game_case.specs.declared.entries.Entry.{Entry}
-use Rattle.gcg_names.specs.declared.encodings.Encoding.{Encoding}
+use Rattle.gcg_about.specs.declared.encodings.Encoding.{Encoding}
 use Rattle.archive_lines.specs.declared.answers.Answer.{Answer}
 use Rattle.archive_lines.specs.declared.answers.Answer.TheVariants as answer
 use Rattle.archive_lines.specs.declared.answers.Unread.{Unread}

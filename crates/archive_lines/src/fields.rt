@@ -9,7 +9,7 @@ use crate::likely::LikelyFields;
 use crate::pages::PageField;
 use crate::players::{nick_of, total_of};
 use game_case::Entry;
-use gcg_names::Encoding;
+use gcg_about::Encoding;
 use gcg_read::{ReadFault, Seat};
 use std::alloc::{AllocError, Global};
 use std::borrow::CowStr;

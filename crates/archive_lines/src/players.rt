@@ -5,7 +5,7 @@ ghost use Rattle.game_corrections.specs.LastTotals.{last_total};
 ghost use Rattle.archive_lines.specs.Players.{nick_of};
 
 use game_corrections::last_total;
-use gcg_names::Encoding;
+use gcg_about::Encoding;
 use gcg_read::{Event, Player, Seat};
 use std::alloc::{AllocError, Global};
 

@@ -1,10 +1,10 @@
 //! Reading a line back.
 
 use crate::answers::Answer;
+use crate::tab_reading::read_fields;
 use serde::Deserialize;
 use std::alloc::{AllocError, Global};
 use std::str::{self, FromStr};
-use text_tabs::read_fields;
 
 /// The least number of fields that a line with tabs has: one of earlier versions has no number of lines that are not read. A page is one more, and a
 /// likely repair two more.

@@ -2,7 +2,7 @@
 ghost use Rattle.std.specs.Prelude.{◌≡◌, ◌++◌, ◌∷◌, OnOk, option_map};
 ghost use Rattle.std.specs.String.{string_bytes};
 ghost use Rattle.std.specs.Cow.{cow_str_bytes};
-ghost use Rattle.text_tabs.specs.Lines.{escaped};
+ghost use Rattle.archive_lines.specs.TabLines.{escaped};
 ghost use Rattle.archive_lines.specs.Answers.{ending_text};
 ghost use Rattle.archive_lines.specs.Pages.{page_text};
 ghost use Rattle.archive_lines.specs.Tabs.{shown, following, verdict_reported, record_reported, page_reported, likely_reported, unread_reported, rest_reported, tab_line};
@@ -11,10 +11,10 @@ use crate::answers::Ending;
 use crate::fields::Fields;
 use crate::likely::LikelyFields;
 use crate::pages::PageField;
+use crate::tab_fields::{push_escaped, push_field};
 use itoa::{Buffer, Integer};
 use std::alloc::{AllocError, Global};
 use std::borrow::CowStr;
-use text_tabs::{push_escaped, push_field};
 
 /// Appends the field of a text, or of none.
 fn push_text(line: &mut Vec<u8>, text: Option<&str>) -> Result<(), AllocError>

@@ -3,31 +3,24 @@ ghost use Rattle.std.specs.Prelude.{[], ⊤};
 ghost use Rattle.io_devices.specs.Devices.{HasRoom};
 ghost use Rattle.cli_archive.specs.Reporting.{AreGamesReported, games_later};
 
-use crate::done::Done;
 use crate::names::{Given, Listed, Names};
 use crate::pages::Pages;
-use crate::progress::Progress;
-use archive_answers::{ArchivedGame, Asked, RunLines, report_game, unread_game};
-use archive_lines::Unread;
-use cli_args::{Archive, ArchiveNames, PROGRAM, Progressing};
-use cli_exits::{Exit, Trouble};
+use crate::runs::{Run, RunBy};
+use archive_answers::Asked;
+use cli_args::{Archive, ArchiveNames, PROGRAM};
 use cli_files::{
-    Digests, GivenFiles, Inputs, LexiconFile, Reported, RulesFile, Source, UsedOutput, Words,
-    digests_of, given_up, is_folder, open, open_inputs, open_source, refuse, report_others, shown,
-    write,
+    Digests, GivenFiles, Inputs, LexiconFile, Reported, RulesFile, RunInputs, Source, Trouble,
+    UsedOutput, Words, digests_of, given_up, open_inputs, open_source, refuse, report_others,
+    shown,
 };
-use cli_overwrites::RunInputs;
-use either::Either;
 use engine_stages::{Question, RulesSource, RunFault, ask};
+use game_exits::Exit;
 use io_devices::{FromRead, Input};
 use io_watch::Reason;
-use lex_check::Checked;
 use page_answers::Maker;
-use ref_tiles::Rules;
 use std::alloc::{AllocError, Global};
 use std::io::{self, BufReader, Read};
-use std::rt::{Files, Runtime};
-use std::str;
+use std::rt::Runtime;
 
 /// Judges the games of an archive, each by the settled verdict, and writes a line for each to standard output before it reads the next
 /// one. `watched` says whether somebody sees standard error.
@@ -37,29 +30,43 @@ pub fn archive<'r, 'a, R: Runtime + AllocGlobal>(
     watched: bool,
 ) -> Result<Exit, Trouble<'a>> {
     let inputs = open_inputs(rt, request.rules, request.pair, request.pages.is_some())?;
-    let progress = Progress::new(match request.progress {
-        Progressing::Shown => true,
-        Progressing::Quiet => false,
-        Progressing::Unsaid => watched,
-    });
-    let Some(done) = Done::read(rt, request.skip)? else {
-        return Ok(Exit::BadInput);
-    };
-    let run = Run {
-        done,
-        is_listed: matches!(&request.names, ArchiveNames::Listed(_)),
-        progress,
-        lines: RunLines::new(rt.alloc(), request.json),
-    };
+    match Run::begun(rt, request, watched) {
+        Ok(Some(run)) => archive_names(rt, request, inputs, run),
+        Ok(None) => Ok(Exit::BadInput),
+        Err(trouble) => Err(trouble),
+    }
+}
+
+/// The same by these inputs, for a run that has begun.
+fn archive_names<'r, 'a, R: Runtime + AllocGlobal>(
+    rt: &'r R,
+    request: &'r Archive<'a>,
+    inputs: Inputs<R::File, Source<R>>,
+    run: Run,
+) -> Result<Exit, Trouble<'a>>
+    requires rules { HasRoom (⟦<RulesFile<R::File> as RulesSource>⟧.text inputs.rules) }
+    requires words { HasRoom (⟦<FromRead<Words<Source<R>>> as Input>⟧.device inputs.words) }
+    requires lexicon { HasRoom (⟦<LexiconFile<R::File> as Input>⟧.device inputs.lexicon) }
+{
     match &request.names {
         ArchiveNames::Given(names) => {
             archive_by(rt, request, inputs, run, Given::new(names.as_slice()))
         }
-        ArchiveNames::Listed(file) => {
-            let reader = buffered(rt.alloc(), open_source(rt, *file)?)?;
-            archive_by(rt, request, inputs, run, Listed::new(reader, request.end))
-        }
+        ArchiveNames::Listed(file) => match listed(rt, *file, request.end) {
+            Ok(names) => archive_by(rt, request, inputs, run, names),
+            Err(trouble) => Err(trouble),
+        },
     }
+}
+
+/// The names of a file, each of which this byte ends.
+fn listed<'a, R: Runtime + AllocGlobal>(
+    rt: &R,
+    file: &'a str,
+    end: u8,
+) -> Result<Listed<BufReader<Source<R>, Global>>, Trouble<'a>> {
+    let reader = buffered(rt.alloc(), open_source(rt, file)?)?;
+    Ok(Listed::new(reader, end))
 }
 
 /// A reader with a buffer.
@@ -197,147 +204,60 @@ fn go_through<'a, R: Runtime + AllocGlobal, F: Read + Drop, S: Read + Drop, N: N
     games: &mut Games<N>,
 ) -> Result<Exit, Trouble<'a>> {
     let maker = maker_of(request, given)?;
-    let asked = Asked {
-        likely: request.repairs,
-        page: maker.as_ref(),
+    let by = RunBy {
+        rules: given.rules,
+        pair: given.pair,
+        asked: Asked {
+            likely: request.repairs,
+            page: maker.as_ref(),
+        },
     };
-    let mut pages = pages_of(rt, request)?;
-    let Games { run, names } = games;
+    match pages_of(rt, request) {
+        Ok(pages) => take_all(rt, request, &by, pages, games),
+        Err(trouble) => Err(trouble),
+    }
+}
+
+/// Judges the games of these names, and ends their pages.
+fn take_all<'a, R: Runtime + AllocGlobal, N: Names + Drop>(
+    rt: &R,
+    request: &Archive<'a>,
+    by: &RunBy<'_>,
+    pages: Option<Pages<'a>>,
+    games: &mut Games<N>,
+) -> Result<Exit, Trouble<'a>> {
+    let mut pages = pages;
+    match take_names(rt, request, by, &mut pages, games) {
+        Ok(()) => games.run.end(rt, &mut pages),
+        Err(trouble) => Err(trouble),
+    }
+}
+
+/// Judges the games of these names.
+fn take_names<'a, R: Runtime + AllocGlobal, N: Names + Drop>(
+    rt: &R,
+    request: &Archive<'a>,
+    by: &RunBy<'_>,
+    pages: &mut Option<Pages<'a>>,
+    games: &mut Games<N>,
+) -> Result<(), Trouble<'a>> {
     let mut name = Vec::new(rt.alloc());
     for _ in 0..u64::MAX {
         name.clear();
-        match names.next_name(&mut name) {
-            Ok(true) => run.take_name(rt, given.rules, given.pair, &asked, &mut pages, &name)?,
+        match games.names.next_name(&mut name) {
+            Ok(true) => games.run.take_name(rt, by, pages, &name)?,
             Ok(false) => break,
-            Err(error) if error.kind() == io::ErrorKind::OutOfMemory => {
-                return Err(Trouble::NoMemory);
-            }
-            Err(error) => {
-                let names = shown(request.names.source());
-                return Err(Trouble::ReadFailed(names, Reason::of(&error)));
-            }
+            Err(error) => return Err(names_lost(request, &error)),
         }
     }
-    run.progress.end(rt);
-    if let Some(pages) = &mut pages {
-        pages.end(rt)?;
-    }
-    Ok(run.lines.worst)
+    Ok(())
 }
 
-/// The state of a run over the games of an archive.
-#[derive(Drop)]
-struct Run {
-    /// The games that have a line already, and are passed over.
-    done: Done,
-    /// Whether the names of the games are in a list, and not on the command line.
-    is_listed: bool,
-    progress: Progress,
-    /// The line of the game that was judged last, and how the program ends by the lines that are written.
-    lines: RunLines,
-}
-
-impl Run {
-    /// Judges the game of a name, unless it has a line already.
-    fn take_name<'a, R: Runtime + AllocGlobal>(
-        &mut self,
-        rt: &R,
-        rules: &Rules,
-        pair: &Checked<'_>,
-        asked: &Asked<'_>,
-        pages: &mut Option<Pages<'_>>,
-        name: &[u8],
-    ) -> Result<(), Trouble<'a>> {
-        if self.done.has(rt.alloc(), name)? {
-            return Ok(());
-        }
-        self.take_game(rt, rules, pair, asked, pages, name)
-    }
-
-    /// Judges one game, and writes its line. A name that is not UTF-8 text is not the name of a file.
-    fn take_game<'a, R: Runtime + AllocGlobal>(
-        &mut self,
-        rt: &R,
-        rules: &Rules,
-        pair: &Checked<'_>,
-        asked: &Asked<'_>,
-        pages: &mut Option<Pages<'_>>,
-        name: &[u8],
-    ) -> Result<(), Trouble<'a>> {
-        if let Ok(name) = str::from_utf8(name) {
-            let game = match self.open_game(rt, name) {
-                Ok(game) => found(rt, rules, pair, asked, name, game),
-                Err(Trouble::NoMemory) => unread_game(asked, name, Unread::NoMemory),
-                Err(_) => unread_game(asked, name, Unread::CannotOpen),
-            };
-            return self.report(rt, asked, pages, game);
-        }
-        match String::from_utf8_lossy(rt.alloc(), name) {
-            Ok(shown) => {
-                let game = unread_game(asked, shown.as_str(), Unread::CannotOpen);
-                self.report(rt, asked, pages, game)
-            }
-            Err(_) => Err(Trouble::NoMemory),
-        }
-    }
-
-    /// Opens a game. A list of names has only files; the command line may name standard input too.
-    fn open_game<'n, R: Runtime>(&self, rt: &R, name: &'n str) -> Result<Source<R>, Trouble<'n>> {
-        if self.is_listed {
-            Ok(Either::Left(open(rt, name)?))
-        } else {
-            open_source(rt, name)
-        }
-    }
-
-    /// Writes the page of a game and adds its row to the index if pages are made, writes its line, and counts the game.
-    fn report<'a, R: Runtime + AllocGlobal>(
-        &mut self,
-        rt: &R,
-        asked: &Asked<'_>,
-        pages: &mut Option<Pages<'_>>,
-        game: ArchivedGame<'_>,
-    ) -> Result<(), Trouble<'a>> {
-        let mut game = game;
-        if let Some(pages) = pages {
-            pages.write(rt, &mut game);
-            pages.add(rt.alloc(), &mut game);
-        }
-        if self.lines.add(rt.alloc(), asked, &game).is_err() {
-            return Err(Trouble::NoMemory);
-        }
-        write(rt, self.lines.line.as_slice())?;
-        self.progress.count(rt);
-        Ok(())
-    }
-}
-
-/// What is told of the open game of this name.
-fn found<'n, R: Runtime + AllocGlobal, F: Read + Drop>(
-    rt: &R,
-    rules: &Rules,
-    pair: &Checked<'_>,
-    asked: &Asked<'_>,
-    name: &'n str,
-    game: F,
-) -> ArchivedGame<'n> {
-    let mut game = FromRead::new(game);
-    match report_game(rt.alloc(), rules, pair, asked, name, &mut game) {
-        Ok(reported) => reported,
-        Err(fault) => unread_game(asked, name, unread_by(rt, name, fault)),
-    }
-}
-
-/// Why the game of this name is unread, if reading it failed.
-fn unread_by<R: Files>(rt: &R, name: &str, fault: RunFault) -> Unread {
-    match fault {
-        RunFault::NoMemory => Unread::NoMemory,
-        RunFault::ReadFailed | RunFault::WriteFailed => {
-            if is_folder(rt, name) {
-                Unread::IsFolder
-            } else {
-                Unread::ReadFailed
-            }
-        }
+/// Why the program could not finish if it could not read the next name.
+fn names_lost<'a>(request: &Archive<'a>, error: &io::Error) -> Trouble<'a> {
+    if error.kind() == io::ErrorKind::OutOfMemory {
+        Trouble::NoMemory
+    } else {
+        Trouble::ReadFailed(shown(request.names.source()), Reason::of(error))
     }
 }

@@ -1,11 +1,11 @@
 //! The games of an archive that have a line already.
 
 use crate::archiving::buffered;
-use crate::read_lines::{ArchiveLines, NextLine};
-use cli_exits::Trouble;
-use cli_files::{open_source, shown};
+use crate::read_lines::{ArchiveLines, NextLine, Taken};
+use cli_files::{Trouble, open_source, shown};
 use std::alloc::{AllocError, Global};
 use std::collections::BTreeSet;
+use std::io::BufRead;
 use std::rt::Runtime;
 
 /// The names that have a line.
@@ -22,32 +22,69 @@ impl Done {
         rt: &R,
         file: Option<&'a str>,
     ) -> Result<Option<Done>, Trouble<'a>> {
-        let mut done = Done {
+        let done = Done {
             names: BTreeSet::new(rt.alloc()),
         };
-        let Some(file) = file else {
-            return Ok(Some(done));
-        };
+        match file {
+            None => Ok(Some(done)),
+            Some(file) => done.with_file(rt, file),
+        }
+    }
+
+    /// These names, and those that have a line in a file.
+    fn with_file<'a, R: Runtime + AllocGlobal>(
+        self,
+        rt: &R,
+        file: &'a str,
+    ) -> Result<Option<Done>, Trouble<'a>> {
         let reader = buffered(rt.alloc(), open_source(rt, file)?)?;
         let mut lines = ArchiveLines::new(rt.alloc(), reader, shown(file));
+        let mut done = self;
+        match done.take_lines(rt, &mut lines) {
+            Ok(true) => Ok(Some(done)),
+            Ok(false) => Ok(None),
+            Err(trouble) => Err(trouble),
+        }
+    }
+
+    /// Adds the names of these lines, and returns whether all are lines of an archive.
+    fn take_lines<'a, R: Runtime + AllocGlobal, B: BufRead + Drop>(
+        &mut self,
+        rt: &R,
+        lines: &mut ArchiveLines<'a, B>,
+    ) -> Result<bool, Trouble<'a>> {
         for _ in 0..u64::MAX {
-            match lines.next_line(rt.alloc())? {
-                NextLine::End => break,
-                NextLine::Whole(line) => match done.names.insert(line.name) {
-                    Ok(_) => {}
-                    Err(_) => return Err(Trouble::NoMemory),
-                },
-                NextLine::NoLine => {
-                    lines.report_no_line(rt);
-                    return Ok(None);
-                }
-                NextLine::Part => {
-                    lines.report_part(rt);
-                    return Ok(None);
-                }
+            match self.take_line(rt, lines)? {
+                Taken::Line => {}
+                Taken::End => break,
+                Taken::Refused => return Ok(false),
             }
         }
-        Ok(Some(done))
+        Ok(true)
+    }
+
+    /// Adds the name of the next line.
+    fn take_line<'a, R: Runtime + AllocGlobal, B: BufRead + Drop>(
+        &mut self,
+        rt: &R,
+        lines: &mut ArchiveLines<'a, B>,
+    ) -> Result<Taken, Trouble<'a>> {
+        match lines.next_line(rt.alloc()) {
+            Ok(NextLine::Whole(line)) => match self.names.insert(line.name) {
+                Ok(_) => Ok(Taken::Line),
+                Err(_) => Err(Trouble::NoMemory),
+            },
+            Ok(NextLine::End) => Ok(Taken::End),
+            Ok(NextLine::NoLine) => {
+                lines.report_no_line(rt);
+                Ok(Taken::Refused)
+            }
+            Ok(NextLine::Part) => {
+                lines.report_part(rt);
+                Ok(Taken::Refused)
+            }
+            Err(trouble) => Err(trouble),
+        }
     }
 
     /// Whether a game of this name has a line. If a name is not UTF-8, its line has it as text with U+FFFD.

@@ -1,10 +1,10 @@
 //! `index`: the index of the pages of one run or many, by the lines of the runs.
 
 use crate::archiving::buffered;
-use crate::read_lines::{ArchiveLines, NextLine};
+use crate::read_lines::{ArchiveLines, NextLine, Taken};
 use archive_lines::{LineRead, lead_of};
-use cli_exits::{Exit, Trouble};
-use cli_files::{open_source, shown, write_out};
+use cli_files::{Trouble, open_source, shown, write_out};
+use game_exits::Exit;
 use page_game::{Index, IndexPlayer, IndexRow};
 use std::alloc::{AllocError, Global};
 use std::io::BufRead;
@@ -36,24 +36,51 @@ fn index_of<'a, R: Runtime + AllocGlobal, B: BufRead + Drop>(
     lines: &mut ArchiveLines<'a, B>,
 ) -> Result<Option<Index>, Trouble<'a>> {
     let mut index = Index::new(rt.alloc());
+    match take_rows(rt, lines, &mut index) {
+        Ok(true) => Ok(Some(index)),
+        Ok(false) => Ok(None),
+        Err(trouble) => Err(trouble),
+    }
+}
+
+/// Appends the rows of these lines, and returns whether all are lines of an archive whose pages are in the folder of the index.
+fn take_rows<'a, R: Runtime + AllocGlobal, B: BufRead + Drop>(
+    rt: &R,
+    lines: &mut ArchiveLines<'a, B>,
+    index: &mut Index,
+) -> Result<bool, Trouble<'a>> {
     for _ in 0..u64::MAX {
-        let pushed = match lines.next_line(rt.alloc())? {
-            NextLine::Whole(line) if line.is_page_outside() => {
-                lines.report_outside(rt);
-                return Ok(None);
-            }
-            NextLine::Whole(line) => push_row(rt.alloc(), &mut index, &line),
-            NextLine::End => break,
-            NextLine::NoLine | NextLine::Part => {
-                lines.report_no_line(rt);
-                return Ok(None);
-            }
-        };
-        if pushed.is_err() {
-            return Err(Trouble::NoMemory);
+        match take_row(rt, lines, index)? {
+            Taken::Line => {}
+            Taken::End => break,
+            Taken::Refused => return Ok(false),
         }
     }
-    Ok(Some(index))
+    Ok(true)
+}
+
+/// Appends the row of the next line.
+fn take_row<'a, R: Runtime + AllocGlobal, B: BufRead + Drop>(
+    rt: &R,
+    lines: &mut ArchiveLines<'a, B>,
+    index: &mut Index,
+) -> Result<Taken, Trouble<'a>> {
+    match lines.next_line(rt.alloc()) {
+        Ok(NextLine::Whole(line)) if line.is_page_outside() => {
+            lines.report_outside(rt);
+            Ok(Taken::Refused)
+        }
+        Ok(NextLine::Whole(line)) => match push_row(rt.alloc(), index, &line) {
+            Ok(()) => Ok(Taken::Line),
+            Err(_) => Err(Trouble::NoMemory),
+        },
+        Ok(NextLine::End) => Ok(Taken::End),
+        Ok(NextLine::NoLine | NextLine::Part) => {
+            lines.report_no_line(rt);
+            Ok(Taken::Refused)
+        }
+        Err(trouble) => Err(trouble),
+    }
 }
 
 /// Appends the row of a line.

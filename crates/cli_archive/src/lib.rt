@@ -8,6 +8,7 @@ mod names;
 mod pages;
 mod progress;
 mod read_lines;
+mod runs;
 
 pub use archiving::archive;
 pub use indexing::index;

@@ -2,13 +2,11 @@
 
 use archive_answers::{ArchivedGame, GameRow, GameSheet, RowPlayer, row_of};
 use archive_lines::PageField;
-use cli_exits::Trouble;
-use cli_files::{unopened, write_whole_file};
-use cli_overwrites::RunInputs;
+use cli_files::{RunInputs, Trouble, unopened, write_whole_file};
 use io_files::is_same_file;
 use page_answers::PagedCase;
 use page_game::{Index, IndexPlayer, IndexRow};
-use page_names::push_page_name;
+use page_pieces::push_page_name;
 use page_words::page_text;
 use std::alloc::{AllocError, Global};
 use std::path::Path;

@@ -1,7 +1,7 @@
 //! The lines of earlier archive runs, one after the other.
 
 use archive_lines::LineRead;
-use cli_exits::Trouble;
+use cli_files::Trouble;
 use io_watch::Reason;
 use std::alloc::Global;
 use std::io::{self, BufRead};
@@ -30,6 +30,17 @@ pub enum NextLine {
     Part,
     /// Nothing.
     End,
+}
+
+/// What was done with a line that was read.
+#[derive(Clone, Copy)]
+pub enum Taken {
+    /// It was taken.
+    Line,
+    /// There is none: the text has ended.
+    End,
+    /// It is not one that can be taken, and standard error says so.
+    Refused,
 }
 
 impl<'a, B: BufRead + Drop> ArchiveLines<'a, B> {

@@ -1,1 +1,3 @@
 pub mod laws
+pub mod Digesting
+pub mod Troubles

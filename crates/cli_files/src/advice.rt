@@ -2,7 +2,7 @@
 
 use crate::sources::shown;
 use explain_records::{MOST_NAMED, other_faults, push_missing, push_record_fault};
-use gcg_names::Encoding;
+use gcg_about::Encoding;
 use gcg_read::{ReadFault, Why, read};
 use gcg_unread::unread_lines;
 use io_kinds::{FileKind, has_events};

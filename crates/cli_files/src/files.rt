@@ -1,8 +1,8 @@
 //! The files of a call: how they are opened and written, and what is said of the one that failed.
 
 use crate::sources::{Words, seen_words, shown};
+use crate::troubles::Trouble;
 use cli_args::STANDARD_OUTPUT_NAME;
-use cli_exits::Trouble;
 use either::Either;
 use engine_stages::{RunFault, Verdict};
 use io_devices::{FromRead, FromWrite, write_whole};
@@ -164,6 +164,13 @@ pub struct InputFile<'a> {
 }
 
 impl<'a> InputFile<'a> {
+    /// No input.
+    pub const NONE: InputFile<'static> = InputFile {
+        name: "",
+        failures: 0,
+        reason: Reason::Unknown,
+    };
+
     /// The input with this name in messages, of which this many reads failed.
     fn new<F: Read + Drop>(name: &'a str, failures: u64, reader: &WatchedRead<F>) -> InputFile<'a> {
         InputFile {
@@ -181,11 +188,7 @@ pub fn used_rules<'a, F: Read + Drop>(
 ) -> InputFile<'a> {
     match (name, input) {
         (Some(name), Some(input)) => used(name, input),
-        _ => InputFile {
-            name: "",
-            failures: 0,
-            reason: Reason::Unknown,
-        },
+        _ => InputFile::NONE,
     }
 }
 

@@ -2,17 +2,18 @@
 ghost use Rattle.std.specs.Prelude.{IfOk};
 ghost use Rattle.io_devices.specs.Devices.{HasRoom};
 
+use crate::digesting::Digesting;
 use crate::files::{
     InputFile, STANDARD_ERROR, STANDARD_OUTPUT, open, used, used_rules, used_words, watched,
 };
+use crate::hints::Known;
 use crate::reporting::give_hint;
 use crate::sources::{Seen, Source, Words, open_words, seen_words, shown};
+use crate::troubles::Trouble;
 use cli_args::{PairFiles, STANDARD_OUTPUT_NAME, WordsFile};
-use cli_exits::{Exit, Trouble};
-use cli_hints::Known;
 use engine_stages::{Decision, Given, RulesInput, RulesSource};
+use game_exits::Exit;
 use io_devices::{FromRead, FromWrite, Input, write_whole};
-use io_digest::Digesting;
 use io_watch::{Reason, WatchedRead};
 use ref_tiles::{MAX_RULES_BYTES, english_rules};
 use std::alloc::AllocError;

@@ -2,8 +2,9 @@
 
 use crate::inputs::write;
 use crate::sources::shown;
-use cli_exits::{Exit, Trouble};
+use crate::troubles::Trouble;
 use engine_stages::Decision;
+use game_exits::Exit;
 use json_base::{push_refusal, push_trouble};
 use std::alloc::{AllocError, Global};
 use std::rt::Runtime;

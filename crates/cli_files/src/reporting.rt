@@ -1,7 +1,7 @@
 //! What standard error says besides the line that says that an input is bad.
 
+use crate::hints::{Hint, Known};
 use cli_args::PROGRAM_NAME;
-use cli_hints::{Hint, Known};
 use std::rt::Runtime;
 use std::str;
 

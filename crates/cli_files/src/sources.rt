@@ -2,15 +2,14 @@
 ghost use Rattle.std.specs.Prelude.{IfOk};
 ghost use Rattle.io_devices.specs.Devices.{HasRoom};
 
+use crate::digesting::Digesting;
 use crate::files::open;
+use crate::troubles::Trouble;
 use cli_args::{PROGRAM_NAME, STANDARD_INPUT, WordsFile};
-use cli_exits::Trouble;
 use either::Either;
 use io_devices::{FromRead, Input};
-use io_digest::Digesting;
 use io_watch::WatchedRead;
-use lex_fields::FirstFields;
-use lex_words::{Others, WordLines};
+use lex_words::{FirstFields, Others, WordLines};
 use std::alloc::Global;
 use std::io::{self, Read};
 use std::rt::{Files, Runtime};

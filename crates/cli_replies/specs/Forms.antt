@@ -1,7 +1,7 @@
 -- What is written of what was found, in each form.
 use Rattle.std.specs.Prelude.{◌≡◌, ⊤, Result, Ok, Err, None}
 use Rattle.engine_stages.specs.declared.decisions.Decision.{Decision}
-use Rattle.reply_answers.specs.declared.printed.Printed.{Printed}
+use Rattle.reply_calls.specs.declared.printed.Printed.{Printed}
 use Rattle.reply_answers.specs.declared.replies.Reply.{Reply}
 use Rattle.json_trees.specs.Texts.{json_line}
 use Rattle.json_base.specs.Refusals.{decision_object}

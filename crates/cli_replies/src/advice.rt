@@ -1,9 +1,9 @@
 //! What standard error says in addition to an answer.
 
-use cli_exits::Exit;
 use cli_files::{
     SheetFile, Source, advise_bad_record, advise_no_game, advise_unread, has_game, is_record,
 };
+use game_exits::Exit;
 use reply_requests::Task;
 use std::rt::Runtime;
 

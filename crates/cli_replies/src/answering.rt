@@ -1,19 +1,21 @@
 //! The commands about one game.
 
 use crate::advice::advise;
+use crate::asked::OfOne;
 use crate::comparing::compare;
 use crate::forms::Form;
 use crate::kept_files::KeptFile;
 use crate::reports::{name_beside, report_beside};
+use crate::sheets::{open_one, used_at};
 use crate::tops::{is_rack, refuse_rack};
 use cli_args::{Asked, GameFiles, GameRequest, PairFiles};
-use cli_exits::{Exit, Trouble};
 use cli_files::{
-    InputFile, Inputs, SheetFile, Source, UsedOutput, advise_unread, give_hint, given_up,
-    open_inputs, open_sheet, report_others, reported_in_json, used_source,
+    InputFile, Inputs, SheetFile, Source, Trouble, UsedOutput, advise_unread, give_hint, given_up,
+    open_inputs, report_others, reported_in_json,
 };
 use engine_stages::RunFault;
-use reply_calls::{Ended, OneSheet, answer_sheet};
+use game_exits::Exit;
+use reply_calls::{Ended, answer_sheets};
 use reply_requests::Task;
 use std::rt::Runtime;
 
@@ -71,18 +73,16 @@ fn answer_one<'a, R: Runtime + AllocGlobal>(
 ) -> Result<Exit, Trouble<'a>> {
     let digests = matches!(task, Task::Page { .. });
     let mut inputs = open_inputs(rt, files.rules, files.pair, digests)?;
-    let mut game = OneSheet {
-        sheet: open_sheet(rt, files.game)?,
-    };
+    let mut sheets = open_one(rt, files.game)?;
     let mut kept = KeptFile::new(rt, out);
     let mut report = report_beside(rt, out);
-    let outcome = answer_sheet(
+    let outcome = answer_sheets(
         rt.alloc(),
-        task,
+        &OfOne { task },
         &mut inputs.rules,
         &mut inputs.words,
         &mut inputs.lexicon,
-        &mut game,
+        &mut sheets,
         &form,
         &mut kept,
         &mut report,
@@ -90,12 +90,14 @@ fn answer_one<'a, R: Runtime + AllocGlobal>(
     report_others(rt, files.pair.words.name, &inputs.words);
     match outcome {
         Ok(ended) => {
-            help(rt, files, task, form, &inputs, &game.sheet, &ended);
+            if let Some(sheet) = sheets.first() {
+                help(rt, files, task, form, &inputs, sheet, &ended);
+            }
             Ok(ended.exit)
         }
         Err(fault) => {
             let [rules, words, lexicon] = inputs.used(files.rules, files.pair);
-            let sheet = used_source(files.game, &game.sheet);
+            let sheet = used_at(files.game, &sheets, 0);
             let writer = report.into_inner();
             let written = UsedOutput::new(name_beside(out), &writer);
             Err(stopped(

@@ -1,16 +1,16 @@
 //! `board --json` and `board --draft`: the board of a record or of a draft, as an object or in words.
 
+use crate::asked::OfBoard;
 use crate::forms::Form;
 use crate::kept_files::KeptFile;
 use crate::reports::report_beside;
-use cli_exits::{Exit, Trouble};
 use cli_files::{
-    RulesFile, STANDARD_OUTPUT, SheetFile, Source, UsedOutput, advise_no_game, advise_unread,
-    give_hint, given_up, is_record, open_rules, open_sheet, reported_in_json, rules_front,
-    used_rules, used_source,
+    Known, RulesFile, STANDARD_OUTPUT, SheetFile, Source, Trouble, UsedOutput, advise_no_game,
+    advise_unread, give_hint, given_up, is_record, open_rules, open_sheet, reported_in_json,
+    rules_front, used_rules, used_source,
 };
-use cli_hints::Known;
-use reply_calls::{Ended, answer_board};
+use game_exits::Exit;
+use reply_calls::{Ended, answer_by_rules};
 use std::rt::Runtime;
 
 /// Says on standard error what helps beside the answer.
@@ -51,10 +51,13 @@ fn show_files<'a, R: Runtime + AllocGlobal>(
     let mut sheet = open_sheet(rt, game)?;
     let mut kept = KeptFile::new(rt, None);
     let mut report = report_beside(rt, None);
-    let outcome = answer_board(
-        rt.alloc(),
-        before,
+    let asked = OfBoard {
+        line: before,
         draft,
+    };
+    let outcome = answer_by_rules(
+        rt.alloc(),
+        &asked,
         &mut stated,
         &mut sheet,
         &form,

@@ -2,16 +2,15 @@
 
 use crate::advice::{advise_draft, advise_first, advise_second};
 use crate::answering::{hint, stopped};
+use crate::asked::OfBoth;
 use crate::forms::Form;
 use crate::kept_files::KeptFile;
 use crate::reports::{name_beside, report_beside};
+use crate::sheets::{Sheets, open_two, used_at};
 use cli_args::GameFiles;
-use cli_exits::{Exit, Trouble};
-use cli_files::{
-    Inputs, SheetFile, Source, UsedOutput, advise_unread, open_inputs, open_sheet, report_others,
-    used_source,
-};
-use reply_calls::{Ended, TwoSheets, answer_sheets};
+use cli_files::{Inputs, Source, Trouble, UsedOutput, advise_unread, open_inputs, report_others};
+use game_exits::Exit;
+use reply_calls::{Ended, answer_sheets};
 use std::rt::Runtime;
 
 /// Says on standard error what helps in addition to the answer on two sheets.
@@ -22,22 +21,25 @@ fn help<'a, R: Runtime + AllocGlobal>(
     draft: bool,
     form: Form,
     inputs: &Inputs<R::File, Source<R>>,
-    sheets: &TwoSheets<SheetFile<Source<R>>>,
+    sheets: &Sheets<R>,
     ended: &Ended,
 ) {
+    let [first, other] = sheets.as_slice() else {
+        return;
+    };
     if ended.refused.is_some() {
         if form == Form::Words {
             hint(rt, files.pair, inputs, ended);
         }
     } else if form == Form::Object {
-        advise_unread(rt, second, sheets.second.inner().front());
-        advise_unread(rt, files.game, sheets.first.inner().front());
+        advise_unread(rt, second, other.inner().front());
+        advise_unread(rt, files.game, first.inner().front());
     } else if draft {
-        advise_draft(rt, second, &sheets.second);
-        advise_draft(rt, files.game, &sheets.first);
+        advise_draft(rt, second, other);
+        advise_draft(rt, files.game, first);
     } else {
-        advise_second(rt, second, &sheets.first, &sheets.second);
-        advise_first(rt, files.game, &sheets.first);
+        advise_second(rt, second, first, other);
+        advise_first(rt, files.game, first);
     }
 }
 
@@ -51,16 +53,16 @@ pub(crate) fn compare<'a, R: Runtime + AllocGlobal>(
     form: Form,
 ) -> Result<Exit, Trouble<'a>> {
     let mut inputs = open_inputs(rt, files.rules, files.pair, false)?;
-    let mut sheets = TwoSheets {
-        first: open_sheet(rt, files.game)?,
-        second: open_sheet(rt, second)?,
+    let mut sheets = open_two(rt, files.game, second)?;
+    let asked = OfBoth {
+        merged: out.is_some(),
+        draft,
     };
     let mut kept = KeptFile::new(rt, out);
     let mut report = report_beside(rt, out);
     let outcome = answer_sheets(
         rt.alloc(),
-        out.is_some(),
-        draft,
+        &asked,
         &mut inputs.rules,
         &mut inputs.words,
         &mut inputs.lexicon,
@@ -77,8 +79,8 @@ pub(crate) fn compare<'a, R: Runtime + AllocGlobal>(
         }
         Err(fault) => {
             let [rules, words, lexicon] = inputs.used(files.rules, files.pair);
-            let one = used_source(files.game, &sheets.first);
-            let other = used_source(second, &sheets.second);
+            let one = used_at(files.game, &sheets, 0);
+            let other = used_at(second, &sheets, 1);
             let writer = report.into_inner();
             let written = UsedOutput::new(name_beside(out), &writer);
             let used = [rules, words, lexicon, one, other];

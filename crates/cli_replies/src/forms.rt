@@ -3,16 +3,12 @@ ghost use Rattle.std.specs.Prelude.{IfOk};
 ghost use Rattle.cli_replies.specs.declared.forms.Form.TheVariants as form;
 ghost use Rattle.cli_replies.specs.Forms.{IsWrittenAs};
 
-use cli_args::PROGRAM;
-use cli_files::{Digests, GivenFiles, RulesFile, Words, digests_of};
 use engine_stages::Decision;
-use io_devices::FromRead;
-use page_answers::Maker;
-use reply_answers::{Printed, Reply};
-use reply_calls::{PageMaker, Rendering};
+use game_exits::Exit;
+use reply_answers::{Reply, exit_of_reply};
+use reply_calls::{Printed, Rendering};
 use reply_texts::{each_in_words, in_object, in_words, refusal_object};
 use std::alloc::{AllocError, Global};
-use std::io::Read;
 
 /// The form in which a reply is written.
 #[derive(Clone, Copy)]
@@ -56,23 +52,13 @@ fn object_of(alloc: Global, found: &Result<Reply, Decision>) -> Result<Printed, 
     }
 }
 
-impl<F: Read + Drop, S: Read + Drop> PageMaker<RulesFile<F>, FromRead<Words<S>>> for Form {
-    /// What pages are made by, with the digests of the inputs.
-    fn maker(&self, _alloc: Global, given: &GivenFiles<'_, F, S>) -> Result<Maker, AllocError> {
-        let Digests { list, rules } = digests_of(given)?;
-        Ok(Maker {
-            program: PROGRAM,
-            words: given.pair.list().len(),
-            list,
-            rules,
-        })
-    }
-}
-
-impl Rendering for Form {
+impl Rendering<Reply> for Form {
+    ghost use Rattle.reply_answers.specs.Exits.{status_of_reply};
     ghost use Rattle.cli_replies.specs.Forms.{IsWrittenAs};
 
     ghost shows = { λ form found printed. IsWrittenAs form found printed };
+
+    ghost status = { status_of_reply };
 
     fn render(
         &self,
@@ -84,5 +70,9 @@ impl Rendering for Form {
             Form::EachWord => each_of(alloc, found),
             Form::Object => object_of(alloc, found),
         }
+    }
+
+    fn exit(&self, reply: &Reply) -> Exit {
+        exit_of_reply(reply)
     }
 }

@@ -1,7 +1,6 @@
 //! The output that a command names for a text, as a file or standard output.
 
-use cli_exits::Trouble;
-use cli_files::write_out;
+use cli_files::{Trouble, write_out};
 use reply_calls::{KeepFailed, Outlet};
 use std::rt::Runtime;
 

@@ -6,12 +6,14 @@
 
 mod advice;
 mod answering;
+mod asked;
 mod boards;
 mod comparing;
 mod forms;
 mod kept_files;
 mod pairs;
 mod reports;
+mod sheets;
 mod tops;
 
 pub use answering::answer_game;

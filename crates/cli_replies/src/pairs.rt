@@ -1,17 +1,20 @@
 //! The commands that are about a word list and its lexicon: `word`, and `check --json`.
 
 use crate::answering::hint;
+use crate::asked::OfNone;
 use crate::forms::Form;
 use crate::kept_files::KeptFile;
 use crate::reports::report_beside;
+use crate::sheets::Sheets;
 use cli_args::{PROGRAM_NAME, PairFiles};
-use cli_exits::{Exit, Trouble};
 use cli_files::{
-    STANDARD_OUTPUT, UsedOutput, given_up, open_inputs, report_others, reported_in_json, write,
+    STANDARD_OUTPUT, Trouble, UsedOutput, given_up, open_inputs, report_others, reported_in_json,
+    write,
 };
+use game_exits::Exit;
 use lex_rulings::is_word;
 use reply_answers::{Reply, exit_of_reply};
-use reply_calls::answer_request;
+use reply_calls::answer_sheets;
 use reply_requests::Request;
 use reply_texts::in_words;
 use std::rt::Runtime;
@@ -47,12 +50,14 @@ fn answer_pair<'a, R: Runtime + AllocGlobal>(
     let mut inputs = open_inputs(rt, None, pair, false)?;
     let mut kept = KeptFile::new(rt, None);
     let mut report = report_beside(rt, None);
-    let outcome = answer_request(
+    let mut sheets: Sheets<R> = Vec::new(rt.alloc());
+    let outcome = answer_sheets(
         rt.alloc(),
-        request,
+        &OfNone { request },
         &mut inputs.rules,
         &mut inputs.words,
         &mut inputs.lexicon,
+        &mut sheets,
         &form,
         &mut kept,
         &mut report,

@@ -1,9 +1,9 @@
 //! `top --json` with a rack that is not one.
 
 use cli_args::GameFiles;
-use cli_exits::{Exit, Trouble};
-use cli_files::{open_inputs, open_sheet, refuse_in_json};
+use cli_files::{Trouble, open_inputs, open_sheet, refuse_in_json};
 use engine_stages::{Decision, InputFault};
+use game_exits::Exit;
 use gcg_read::read_rack;
 use std::rt::Runtime;
 

@@ -3,13 +3,12 @@ ghost use Rattle.std.specs.Prelude.{IfOk};
 ghost use Rattle.io_devices.specs.Devices.{HasRoom};
 
 use cli_args::GameFiles;
-use cli_exits::Trouble;
 use cli_files::{
-    InputFile, Inputs, LexiconFile, RulesFile, STANDARD_OUTPUT, SheetFile, Source, UsedOutput,
-    Words, advise_bad_record, advise_no_game, advise_unread, give_hint, open_inputs, open_rules,
-    open_sheet, report_others, rules_front, used_rules, used_source, verdict_of, watched,
+    InputFile, Inputs, Known, LexiconFile, RulesFile, STANDARD_OUTPUT, SheetFile, Source, Trouble,
+    UsedOutput, Words, advise_bad_record, advise_no_game, advise_unread, give_hint, open_inputs,
+    open_rules, open_sheet, report_others, rules_front, used_rules, used_source, verdict_of,
+    watched,
 };
-use cli_hints::Known;
 use engine::{
     run, run_board, run_board_ruled, run_ruled, run_settled, run_settled_ruled, run_tidy, run_top,
     run_top_before, run_top_before_ruled, run_top_ruled,

@@ -1,13 +1,11 @@
 //! The commands that keep the lexicon of a word list.
 
 use cli_args::{PairFiles, WordsFile};
-use cli_exits::Trouble;
 use cli_files::{
-    STANDARD_OUTPUT, UsedOutput, end_out, give_hint, known_words, open_lexicon, open_out,
-    open_words, repeat_fault, report_others, shown, shown_out, used, used_words, verdict_of,
-    watched,
+    Known, STANDARD_OUTPUT, Trouble, UsedOutput, end_out, give_hint, known_words, open_lexicon,
+    open_out, open_words, repeat_fault, report_others, shown, shown_out, used, used_words,
+    verdict_of, watched,
 };
-use cli_hints::Known;
 use engine::{run_build, run_check, run_convert};
 use engine_stages::{RunFault, Verdict};
 use io_devices::{FromRead, FromWrite};

@@ -5,8 +5,8 @@ use Rattle.ref_tiles.specs.declared.rulebook.Rules.{Rules}
 use Rattle.serde_json.specs.Data.{Data, depth}
 use Rattle.serde_json.specs.Read.{read, max_depth}
 use Rattle.serde_json.specs.Written.{has_float, compact_text}
-use Rattle.cli_exits.specs.declared.exits.Exit.{Exit}
-use Rattle.cli_exits.specs.Exits.{status_of}
+use Rattle.game_exits.specs.declared.exits.Exit.{Exit}
+use Rattle.game_exits.specs.Exits.{status_of}
 use Rattle.json.specs.Json.{Json}
 use Rattle.cli_serve.specs.AnswerLines.{answer_line, no_memory_line, refused_line, IsAnswerLine, IsIdText, IsLineBy, IsLineOf, IsLineOfText, IsRefusedLine, IsRefusedWith}
 use Rattle.cli_serve.specs.Responses.{IsAnswerTo}

@@ -1,7 +1,7 @@
 -- An answer is one to the request whose reply it gives.
 use Rattle.std.proofs.Common.{◌≡◌, ℕ, List, Result, Ok, Err, IfOk}
 use Rattle.ref_tiles.specs.declared.rulebook.Rules.{Rules}
-use Rattle.cli_exits.specs.Exits.{status_of}
+use Rattle.game_exits.specs.Exits.{status_of}
 use Rattle.page_answers.specs.declared.makers.Maker.{Maker}
 use Rattle.reply_requests.specs.declared.requests.Request.{Request}
 use Rattle.reply_answers.specs.declared.replies.Reply.{Reply}

@@ -8,8 +8,8 @@ use Rattle.json_base.specs.Refusals.{trouble_object}
 use Rattle.serde_json.specs.Data.{Data, depth}
 use Rattle.serde_json.specs.Read.{read, max_depth}
 use Rattle.serde_json.specs.Written.{has_float, compact_text}
-use Rattle.cli_exits.specs.declared.exits.Exit.{Exit}
-use Rattle.cli_exits.specs.Exits.{status_of}
+use Rattle.game_exits.specs.declared.exits.Exit.{Exit}
+use Rattle.game_exits.specs.Exits.{status_of}
 use Rattle.page_answers.specs.declared.makers.Maker.{Maker}
 use Rattle.cli_serve.specs.Responses.{IsAnswerTo}
 use Rattle.reply_requests.specs.declared.refusals.Refusal.{Refusal}

@@ -2,8 +2,8 @@
 use Rattle.std.specs.Prelude.{◌≡◌, ℕ, List, Option}
 use Rattle.json.specs.Json.{Json}
 use Rattle.ref_tiles.specs.declared.rulebook.Rules.{Rules}
-use Rattle.cli_exits.specs.declared.exits.Exit.{Exit}
-use Rattle.cli_exits.specs.Exits.{status_of}
+use Rattle.game_exits.specs.declared.exits.Exit.{Exit}
+use Rattle.game_exits.specs.Exits.{status_of}
 use Rattle.page_answers.specs.declared.makers.Maker.{Maker}
 use Rattle.reply_requests.specs.declared.requests.Request.{Request}
 use Rattle.reply_answers.specs.declared.replies.Reply.{Reply}

@@ -1,15 +1,15 @@
 //! The answer to a request: the exit status of the command of its name, and what that command prints of the same bytes.
 ghost use Rattle.std.specs.Prelude.{◌≡◌, IfOk};
 ghost use Rattle.lex_check.specs.Pairs.{list_in};
-ghost use Rattle.cli_exits.specs.Exits.{status_of};
+ghost use Rattle.game_exits.specs.Exits.{status_of};
 ghost use Rattle.game_known.specs.Known.{AreKnown};
 ghost use Rattle.reply_answers.specs.Exits.{status_of_reply};
 ghost use Rattle.reply_texts.specs.Bodies.{object_in, text_in};
 ghost use Rattle.reply_texts.specs.Objects.{object_of, IsText};
 ghost use Rattle.cli_serve.specs.Responses.{IsAnswerTo};
 
-use cli_exits::Exit;
 use engine_stages::RunFault;
+use game_exits::Exit;
 use game_known::KnownBests;
 use reply_answers::{Judges, Reply, exit_of_reply, reply_to};
 use reply_requests::Request;

@@ -5,7 +5,7 @@ ghost use Rattle.std.specs.String.{string_bytes};
 ghost use Rattle.json_trees.specs.Texts.{json_line};
 ghost use Rattle.json_trees.specs.Trees as trees;
 ghost use Rattle.lex_check.specs.Pairs.{list_in};
-ghost use Rattle.cli_exits.specs.Exits.{status_of};
+ghost use Rattle.game_exits.specs.Exits.{status_of};
 ghost use Rattle.game_known.specs.Known.{AreKnown};
 ghost use Rattle.serde_json.specs.View.{view};
 ghost use Rattle.reply_texts.specs.Bodies.{object_in, text_in};
@@ -14,7 +14,7 @@ ghost use Rattle.cli_serve.specs.Ready.{ready_object};
 ghost use Rattle.reply_requests.specs.Said.{value_at};
 
 use crate::answering::{Response, answer_to};
-use cli_exits::Exit;
+use game_exits::Exit;
 use game_known::KnownBests;
 use json_base::trouble_tree;
 use json_trees::{

@@ -7,12 +7,12 @@ ghost use Rattle.cli_serve.specs.Reporting.{AreServed, served_later};
 use crate::lines::{Lines, NextLine};
 use crate::reporting::{NO_MEMORY_LINE, make_line, make_refusal, ready_line};
 use cli_args::{PROGRAM, PairFiles, SHORT_VERSION, STANDARD_INPUT};
-use cli_exits::{Exit, Trouble};
 use cli_files::{
-    Digests, GivenFiles, Reported, RulesFile, UsedOutput, Words, digests_of, given_up, open_inputs,
-    refuse_in_json, report_others, reported_in_json, shown, write,
+    Digests, GivenFiles, Reported, RulesFile, Trouble, UsedOutput, Words, digests_of, given_up,
+    open_inputs, refuse_in_json, report_others, reported_in_json, shown, write,
 };
 use engine_stages::{Question, RunFault, ask};
+use game_exits::Exit;
 use game_known::KnownBests;
 use io_devices::FromRead;
 use io_watch::Reason;

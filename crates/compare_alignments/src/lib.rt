@@ -7,7 +7,6 @@
 mod agreeing;
 mod aligning;
 mod choices;
-mod copying;
 mod costs;
 mod fronts;
 mod lacking;
@@ -24,7 +23,6 @@ pub use choices::{
     MOST_ITEMS, chosen_side, count_choices, count_items, count_other_racks, count_racks,
     count_varied, count_with_own_racks, is_chosen,
 };
-pub use copying::copy_event;
 pub use lacking::{Lacks, lack_at, merge_lacks};
 pub use laws::{law_of_itself, law_of_merging};
 pub use merging::{NumbersOf, merge, own_side};

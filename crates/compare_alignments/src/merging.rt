@@ -1,11 +1,10 @@
 //! Records made from two sheets.
 ghost use Rattle.std.specs.Prelude.{◌≡◌, ◌++◌, ◌∷◌, [], true, false, if◌then◌else◌, IfOk, OnOk};
 ghost use Rattle.std.specs.Option.{option_or, option_copied};
-ghost use Rattle.compare_alignments.specs.Merging.{line_at, own_side, of_side, rack_of, with_numbers_of, numbered, taken, events_of, gives_tiles, fuller_side, side_of, taken_of, merged};
+ghost use Rattle.compare_alignments.specs.Merging.{line_at, own_side, of_side, rack_of, with_numbers_of, numbered, with_rack, taken, events_of, gives_tiles, fuller_side, side_of, taken_of, merged};
 
 use crate::agreeing::has_amount;
 use crate::choices::{chosen_side, count_items, keeper, next_item, next_rack};
-use crate::copying::copy_with_rack;
 use crate::pairs::{Pair, Side};
 use gcg_read::{Event, EventKind, Events, Seat, same_seat};
 use ref_tiles::Counts;
@@ -84,6 +83,15 @@ fn number(event: &mut Event, whose: NumbersOf, first: &Event, second: &Event)
     }
 }
 
+/// A copy of the event with this rack.
+fn copy_with_rack(event: &Event, rack: &Option<Counts>) -> Event
+    ensures { result ≡ with_rack event.now rack.now }
+{
+    let mut copy = event.copy();
+    copy.rack = *rack;
+    copy
+}
+
 /// The event taken from two lines.
 fn taken(owner: Seat, whose: NumbersOf, side: Side, first: &Event, second: &Event) -> Event
     ensures { result ≡ taken owner whose side first.now second.now }
@@ -151,7 +159,7 @@ fn push_alone(events: &mut Events, line: &Event, is_taken: bool) -> Result<(), A
     ensures { OnOk result (events.new ≡ events.old ++ (if is_taken then (line.now ∷ []) else [])) }
 {
     if is_taken {
-        events.push(copy_with_rack(line, &line.rack))?;
+        events.push(line.copy())?;
     }
     Ok(())
 }

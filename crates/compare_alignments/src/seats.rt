@@ -3,7 +3,6 @@ ghost use Rattle.std.specs.Prelude.{◌≡◌, map, take, IfOk};
 ghost use Rattle.gcg_read.specs.Players.{other_seat};
 ghost use Rattle.compare_alignments.specs.Seats.{in_other_seat};
 
-use crate::copying::copy_with_rack;
 use gcg_read::{Event, Events};
 use std::alloc::{AllocError, Global};
 
@@ -11,7 +10,7 @@ use std::alloc::{AllocError, Global};
 fn in_other_seat(event: &Event) -> Event
     ensures { result ≡ in_other_seat event.now }
 {
-    let mut copy = copy_with_rack(event, &event.rack);
+    let mut copy = event.copy();
     copy.player = event.player.other();
     copy
 }

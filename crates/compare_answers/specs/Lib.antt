@@ -1,5 +1,4 @@
 pub mod Agreements
-pub mod Exits
 pub mod Places
 pub mod Scores
 pub mod Lines

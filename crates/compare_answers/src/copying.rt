@@ -1,7 +1,6 @@
 //! Copies of players and of records.
 ghost use Rattle.std.specs.Prelude.{◌≡◌, take, IfOk};
 
-use compare_alignments::copy_event;
 use gcg_read::{Event, Events, Name, Player, Players, Record};
 use std::alloc::{AllocError, Global};
 
@@ -10,9 +9,7 @@ fn copy_events(alloc: Global, events: &[Event]) -> Result<Events, AllocError>
     ensures { IfOk result (λ copies. copies ≡ events.now) }
 {
     let mut copies = Events::new(alloc);
-    for event in events {
-        copies.push(copy_event(event))?;
-    }
+    copies.push_copies(events)?;
     Ok(copies)
 }
 

@@ -1,8 +1,7 @@
 //! What `compare` finds of two sheets, as a value.
 //!
 //! [`answer_comparison`] makes a [`ComparisonAnswer`] of two records: how they differ, what the rules say of each difference, whether they agree, and the
-//! merged record. `compare_lines` puts it into words, and `compare_json` into an object: these read only the value. [`exit_of_agreement`] says how
-//! the program ends.
+//! merged record. `compare_lines` puts it into words, and `compare_json` into an object: these read only the value.
 #![tactic(auto)]
 
 mod agreements;
@@ -11,7 +10,6 @@ mod changed;
 mod copying;
 mod counts;
 mod ends;
-mod exits;
 mod found;
 mod furthest;
 mod lines;
@@ -24,7 +22,6 @@ pub use agreements::Agreement;
 pub use answers::{ComparisonAnswer, answer_comparison};
 pub use counts::ItemCounts;
 pub use ends::GameEnd;
-pub use exits::exit_of_agreement;
 pub use found::WhyNotMerged;
 pub use lines::{LinesAnswer, OtherLine};
 pub use pairs::PairAnswer;

@@ -1,7 +1,7 @@
 //! Whether the merged record is written, and why not.
 
 use compare_answers::{ComparisonAnswer, WhyNotMerged};
-use explain_parts::{Part, say};
+use explain_parts::say;
 use std::alloc::AllocError;
 
 /// Why the merged record is not written.
@@ -21,14 +21,7 @@ fn words_for(why: WhyNotMerged) -> &'static str {
 /// It fails only if memory runs out.
 pub fn push_choice(text: &mut Vec<u8>, answer: &ComparisonAnswer) -> Result<(), AllocError> {
     match &answer.merged {
-        Ok(_) => text.extend_from_slice(b"written: the merged record\n"),
-        Err(why) => say(
-            text,
-            &[
-                Part::Say("not written: "),
-                Part::Say(words_for(*why)),
-                Part::Say("\n"),
-            ],
-        ),
+        Ok(_) => say!(text; "written: the merged record\n"),
+        Err(why) => say!(text; "not written: ", words_for(*why), "\n"),
     }
 }

@@ -5,7 +5,7 @@ use compare_alignments::{Pair, Side};
 use compare_answers::{LinesAnswer, OtherLine};
 use compare_choices::Sheets;
 use engine_stages::{GameFault, fault_text};
-use explain_parts::{Part, say};
+use explain_parts::say;
 use game_turns::RuleFault;
 use std::alloc::{AllocError, Global};
 
@@ -39,67 +39,20 @@ pub(crate) fn push_stop(
         }
     }
     let fault = fault_text(alloc, &GameFault::Rule(why))?;
-    say(
-        text,
-        &[Part::Say(" is refused: "), Part::Raw(fault.as_slice())],
-    )
+    say!(text; " is refused: ", fault.as_slice())
 }
 
-/// Appends that the rules give another line another score than is written.
-fn push_other_score(
+/// Appends that the event is refused with the line of the sheet that is not taken.
+fn push_refused(
+    alloc: Global,
     text: &mut Vec<u8>,
-    sheet: &'static str,
-    written: i32,
-    right: i32,
+    sheets: &Sheets,
+    side: Side,
+    at: Option<usize>,
+    why: RuleFault,
 ) -> Result<(), AllocError> {
-    say(
-        text,
-        &[
-            Part::Say("; "),
-            Part::Say(sheet),
-            Part::Say(" gives "),
-            Part::Points(right),
-            Part::Say(", and "),
-            Part::Points(written),
-            Part::Say(" is written"),
-        ],
-    )
-}
-
-/// Appends what comes of the line of a sheet that is not taken.
-fn push_with(
-    text: &mut Vec<u8>,
-    sheet: &'static str,
-    what: &'static str,
-) -> Result<(), AllocError> {
-    say(
-        text,
-        &[Part::Say("; with "), Part::Say(sheet), Part::Say(what)],
-    )
-}
-
-/// Appends that the line of a sheet is taken, and that none was varied.
-fn push_not_varied(text: &mut Vec<u8>, side: Side) -> Result<(), AllocError> {
-    say(
-        text,
-        &[
-            Part::Say(": not varied, "),
-            Part::Say(name_of(side)),
-            Part::Say(" is taken"),
-        ],
-    )
-}
-
-/// Appends that the line of the sheet that is not taken leaves more wrong.
-fn push_still_wrong(text: &mut Vec<u8>, sheet: &'static str) -> Result<(), AllocError> {
-    say(
-        text,
-        &[
-            Part::Say("; "),
-            Part::Say(sheet),
-            Part::Say(" leaves more wrong"),
-        ],
-    )
+    say!(text; ": ", name_of(side), "; with ", other_name(side), ", ")?;
+    push_stop(alloc, text, sheets, at, why)
 }
 
 /// Appends which line of an item is taken, and what comes of the other one.
@@ -110,37 +63,18 @@ fn push_taken(
     side: Side,
     other: OtherLine,
 ) -> Result<(), AllocError> {
+    let taken = name_of(side);
     let sheet = other_name(side);
     match other {
-        OtherLine::NotVaried => push_not_varied(text, side),
-        OtherLine::AsGood => say(text, &[Part::Say(": both stand")]),
-        OtherLine::Refused { at, why } => {
-            push_name(text, side)?;
-            push_with(text, sheet, ", ")?;
-            push_stop(alloc, text, sheets, at, why)
-        }
-        OtherLine::NoDeal => {
-            push_name(text, side)?;
-            push_with(text, sheet, " no deal yields the racks")
-        }
-        OtherLine::NoDealFound => {
-            push_name(text, side)?;
-            push_with(text, sheet, " no deal was found")
-        }
-        OtherLine::OtherScore { written, right } => {
-            push_name(text, side)?;
-            push_other_score(text, sheet, written, right)
-        }
-        OtherLine::MoreWrong => {
-            push_name(text, side)?;
-            push_still_wrong(text, sheet)
-        }
+        OtherLine::NotVaried => say!(text; ": not varied, ", taken, " is taken"),
+        OtherLine::AsGood => say!(text; ": both stand"),
+        OtherLine::Refused { at, why } => push_refused(alloc, text, sheets, side, at, why),
+        OtherLine::NoDeal => say!(text; ": ", taken, "; with ", sheet, " no deal yields the racks"),
+        OtherLine::NoDealFound => say!(text; ": ", taken, "; with ", sheet, " no deal was found"),
+        OtherLine::OtherScore { written, right } =>
+            say!(text; ": ", taken, "; ", sheet, " gives ", right, ", and ", written, " is written"),
+        OtherLine::MoreWrong => say!(text; ": ", taken, "; ", sheet, " leaves more wrong"),
     }
-}
-
-/// Appends the sheet whose line is taken.
-fn push_name(text: &mut Vec<u8>, side: Side) -> Result<(), AllocError> {
-    say(text, &[Part::Say(": "), Part::Say(name_of(side))])
 }
 
 /// Appends what is said of the lines of a pair, unless they agree: the lines, and the right score, or which of them the rules support.
@@ -156,12 +90,12 @@ pub(crate) fn push_lines(
         LinesAnswer::Differ => push_pair(text, sheets, pair)?,
         LinesAnswer::OtherScores { right } => {
             push_pair(text, sheets, pair)?;
-            say(text, &[Part::Say(": the rules give "), Part::Points(right)])?;
+            say!(text; ": the rules give ", right)?;
         }
         LinesAnswer::Taken { side, other } => {
             push_pair(text, sheets, pair)?;
             push_taken(alloc, text, sheets, side, other)?;
         }
     }
-    say(text, &[Part::Say("\n")])
+    say!(text; "\n")
 }

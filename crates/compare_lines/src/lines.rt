@@ -7,7 +7,7 @@ use crate::results::push_results;
 use compare_alignments::{MOST_ITEMS, Side, chosen_side};
 use compare_answers::{ComparisonAnswer, GameEnd};
 use compare_choices::Stop;
-use explain_parts::{Part, say};
+use explain_parts::say;
 use game_case::{Finding, finding_line};
 use std::alloc::{AllocError, Global};
 
@@ -35,13 +35,7 @@ fn push_rivals(text: &mut Vec<u8>, answer: &ComparisonAnswer) -> Result<(), Allo
     if rivals == 0 {
         return Ok(());
     }
-    say(
-        text,
-        &[
-            Part::Things(rivals, "other choice"),
-            Part::Say(" of the lines would stand as well\n"),
-        ],
-    )
+    say!(text; (rivals, "other choice"), " of the lines would stand as well\n")
 }
 
 /// Appends how many choices are left open, if there are any.
@@ -50,14 +44,7 @@ fn push_remaining(text: &mut Vec<u8>, answer: &ComparisonAnswer) -> Result<(), A
     if remaining == 0 {
         return Ok(());
     }
-    say(
-        text,
-        &[
-            Part::Say("of "),
-            Part::Things(remaining, "choice"),
-            Part::Say(" of the lines it is not known whether a deal yields the racks\n"),
-        ],
-    )
+    say!(text; "of ", (remaining, "choice"), " of the lines it is not known whether a deal yields the racks\n")
 }
 
 /// Appends which lines a choice takes.
@@ -68,13 +55,8 @@ fn push_taken(text: &mut Vec<u8>, choice: usize, items: usize) -> Result<(), All
             Side::First => "first",
             Side::Second => "second",
         };
-        say(
-            text,
-            &[
-                Part::Say(if number == 0 { "" } else { ", " }),
-                Part::Say(name),
-            ],
-        )?;
+        let front = if number == 0 { "" } else { ", " };
+        say!(text; front, name)?;
     }
     Ok(())
 }
@@ -87,7 +69,7 @@ pub(crate) fn push_name(
 ) -> Result<(), AllocError> {
     let items = answer.counts.items;
     if items == 0 {
-        say(text, &[Part::Say("the record of both sheets")])
+        say!(text; "the record of both sheets")
     } else {
         push_taken(text, choice, items)
     }
@@ -101,15 +83,10 @@ fn push_furthest(
     stop: &Stop,
 ) -> Result<(), AllocError> {
     push_name(text, answer, stop.choice)?;
-    say(text, &[Part::Say(" goes furthest: ")])?;
-    push_stop(
-        alloc,
-        text,
-        &answer.sheets,
-        answer.stop_at,
-        stop.stopped.refusal.why,
-    )?;
-    say(text, &[Part::Say("\n")])
+    let why = stop.stopped.refusal.why;
+    say!(text; " goes furthest: ")?;
+    push_stop(alloc, text, &answer.sheets, answer.stop_at, why)?;
+    say!(text; "\n")
 }
 
 /// Appends that no choice makes a game.
@@ -118,14 +95,7 @@ fn push_none(
     text: &mut Vec<u8>,
     answer: &ComparisonAnswer,
 ) -> Result<(), AllocError> {
-    say(
-        text,
-        &[
-            Part::Say("none of "),
-            Part::Things(answer.counts.choices, "choice"),
-            Part::Say(" of the lines is known to be a game\n"),
-        ],
-    )?;
+    say!(text; "none of ", (answer.counts.choices, "choice"), " of the lines is known to be a game\n")?;
     match &answer.comparison.furthest {
         Some(stop) => push_furthest(alloc, text, answer, stop),
         None => Ok(()),

@@ -4,7 +4,7 @@ use crate::written::{event_at, push_numbers};
 use compare_alignments::{Pair, Side};
 use compare_answers::{OwnRack, RacksAnswer};
 use compare_choices::Sheets;
-use explain_parts::{Part, say};
+use explain_parts::say;
 use gcg_read::Event;
 use std::alloc::AllocError;
 
@@ -14,7 +14,7 @@ fn push_rack(text: &mut Vec<u8>, event: Option<&Event>) -> Result<(), AllocError
         return Ok(());
     };
     match &event.rack {
-        Some(tiles) => say(text, &[Part::Say("rack "), Part::Tiles(tiles)]),
+        Some(tiles) => say!(text; "rack ", tiles),
         None => Ok(()),
     }
 }
@@ -51,18 +51,11 @@ fn push_owner(text: &mut Vec<u8>, sheets: &Sheets, answer: RacksAnswer) -> Resul
         RacksAnswer::Same | RacksAnswer::Differ => Ok(()),
         RacksAnswer::Own { side, player } => {
             let nick = sheets.first.players.of(player).nick.as_bytes();
-            say(text, &[Part::Say(words_for_own(side)), Part::Raw(nick)])
+            say!(text; words_for_own(side), nick)
         }
         RacksAnswer::Other { own, player, why } => {
             let nick = sheets.first.players.of(player).nick.as_bytes();
-            say(
-                text,
-                &[
-                    Part::Say(words_for_other(own)),
-                    Part::Raw(nick),
-                    Part::Say(words_for_why(why)),
-                ],
-            )
+            say!(text; words_for_other(own), nick, words_for_why(why))
         }
     }
 }
@@ -78,10 +71,10 @@ pub(crate) fn push_racks(
         return Ok(());
     }
     push_numbers(text, sheets, pair)?;
-    text.extend_from_slice(b": ")?;
+    say!(text; ": ")?;
     push_rack(text, event_at(&sheets.first, pair.first))?;
-    text.extend_from_slice(b" | ")?;
+    say!(text; " | ")?;
     push_rack(text, event_at(&sheets.second, pair.second))?;
     push_owner(text, sheets, answer)?;
-    text.extend_from_slice(b"\n")
+    say!(text; "\n")
 }

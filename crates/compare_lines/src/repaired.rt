@@ -4,9 +4,9 @@ use crate::lines::push_name;
 use compare_alignments::Side;
 use compare_answers::ComparisonAnswer;
 use compare_repaired::{BestRepair, RepairedChoice};
-use explain_parts::{Part, say};
+use explain_parts::say;
+use repair_lines::push_change;
 use repair_single::Repair;
-use repair_words::push_change;
 use std::alloc::AllocError;
 
 /// The words for the sheet whose line is changed; an empty text if the line has the same number on both.
@@ -26,13 +26,7 @@ fn push_first(
     repair: &Repair,
 ) -> Result<(), AllocError> {
     push_name(text, answer, choice.choice)?;
-    say(
-        text,
-        &[
-            Part::Say(" is a game with one more change: "),
-            Part::Say(words_for(answer.changed)),
-        ],
-    )?;
+    say!(text; " is a game with one more change: ", words_for(answer.changed))?;
     push_change(
         text,
         &answer.sheets.first.players,
@@ -40,7 +34,7 @@ fn push_first(
         &repair.listed.change,
         repair.right.as_slice(),
     )?;
-    say(text, &[Part::Say("\n")])
+    say!(text; "\n")
 }
 
 /// Appends that a repair is not ahead of all others, if that is so.
@@ -48,10 +42,7 @@ fn push_rival(text: &mut Vec<u8>, best: &BestRepair) -> Result<(), AllocError> {
     if best.ahead {
         return Ok(());
     }
-    say(
-        text,
-        &[Part::Say("another change would make a game as well\n")],
-    )
+    say!(text; "another change would make a game as well\n")
 }
 
 /// Appends the repaired choice with the cheapest repair, if there is one.

@@ -1,7 +1,7 @@
 //! What is said of totals that differ, and of who won.
 
 use compare_choices::{LastTotals, Results};
-use explain_parts::{Part, say};
+use explain_parts::say;
 use game_corrections::Standing;
 use gcg_read::{Players, Points, Seat};
 use std::alloc::AllocError;
@@ -9,8 +9,8 @@ use std::alloc::AllocError;
 /// Appends a total, if there is one.
 fn push_points(text: &mut Vec<u8>, points: Option<Points>) -> Result<(), AllocError> {
     match points {
-        Some(points) => say(text, &[Part::Points(points.value())]),
-        None => text.extend_from_slice(b"none"),
+        Some(points) => say!(text; points.value()),
+        None => say!(text; "none"),
     }
 }
 
@@ -19,16 +19,13 @@ fn push_totals(text: &mut Vec<u8>, nick: &[u8], totals: &LastTotals) -> Result<(
     if totals.agree {
         return Ok(());
     }
-    say(
-        text,
-        &[Part::Say("total of "), Part::Raw(nick), Part::Say(": ")],
-    )?;
+    say!(text; "total of ", nick, ": ")?;
     push_points(text, totals.first)?;
-    text.extend_from_slice(b" | ")?;
+    say!(text; " | ")?;
     push_points(text, totals.second)?;
-    text.extend_from_slice(b": the rules give ")?;
+    say!(text; ": the rules give ")?;
     push_points(text, totals.right)?;
-    text.extend_from_slice(b"\n")
+    say!(text; "\n")
 }
 
 /// How a player is named: the nickname, or `the other player` if there is none.
@@ -48,20 +45,14 @@ fn push_standing(
     standing: Standing,
     complete: bool,
 ) -> Result<(), AllocError> {
+    let ahead = if complete {
+        " won by "
+    } else {
+        " is ahead by "
+    };
     match standing {
-        Standing::Even => say(text, &[Part::Say("both have the same total")]),
-        Standing::Ahead(seat, by) => say(
-            text,
-            &[
-                Part::Raw(name_of(players, seat)),
-                Part::Say(if complete {
-                    " won by "
-                } else {
-                    " is ahead by "
-                }),
-                Part::Points(by),
-            ],
-        ),
+        Standing::Even => say!(text; "both have the same total"),
+        Standing::Ahead(seat, by) => say!(text; name_of(players, seat), ahead, by),
     }
 }
 
@@ -80,7 +71,7 @@ fn push_other_standing(
     if standing == right {
         return Ok(());
     }
-    say(text, &[Part::Say("; by "), Part::Say(sheet)])?;
+    say!(text; "; by ", sheet)?;
     push_standing(text, players, standing, complete)
 }
 
@@ -118,5 +109,5 @@ pub(crate) fn push_results(
         results.right,
         complete,
     )?;
-    text.extend_from_slice(b"\n")
+    say!(text; "\n")
 }

@@ -3,7 +3,7 @@
 use compare_alignments::{Pair, Side};
 use compare_choices::Sheets;
 use draft_numbers::push_event_text;
-use explain_parts::{Part, say};
+use explain_parts::say;
 use gcg_drafts::Missing;
 use gcg_read::{Event, Record, same_seat};
 use std::alloc::AllocError;
@@ -19,8 +19,8 @@ pub(crate) fn event_at(record: &Record, place: Option<usize>) -> Option<&Event> 
 /// Appends the number of a line, if there is a line.
 fn push_line_number(text: &mut Vec<u8>, event: Option<&Event>) -> Result<(), AllocError> {
     match event {
-        Some(event) => say(text, &[Part::Say("line "), Part::Line(event.line)]),
-        None => say(text, &[Part::Say("no line")]),
+        Some(event) => say!(text; "line ", event.line),
+        None => say!(text; "no line"),
     }
 }
 
@@ -31,7 +31,7 @@ pub(crate) fn push_numbers(
     pair: &Pair,
 ) -> Result<(), AllocError> {
     push_line_number(text, event_at(&sheets.first, pair.first))?;
-    say(text, &[Part::Say(" | ")])?;
+    say!(text; " | ")?;
     push_line_number(text, event_at(&sheets.second, pair.second))
 }
 
@@ -44,20 +44,14 @@ fn push_after_rack(
     named: bool,
 ) -> Result<(), AllocError> {
     let Some(place) = place else {
-        return say(text, &[Part::Say("nothing")]);
+        return say!(text; "nothing");
     };
     if place >= record.events.len() {
         return Ok(());
     }
     if named {
         let player = record.events.as_slice()[place].player;
-        say(
-            text,
-            &[
-                Part::Raw(record.players.of(player).nick.as_bytes()),
-                Part::Say(": "),
-            ],
-        )?;
+        say!(text; record.players.of(player).nick.as_bytes(), ": ")?;
     }
     push_event_text(text, record, place, missing)
 }
@@ -80,10 +74,10 @@ pub(crate) fn push_pair(
 ) -> Result<(), AllocError> {
     let named = differ_in_player(sheets, pair);
     push_numbers(text, sheets, pair)?;
-    say(text, &[Part::Say(": ")])?;
+    say!(text; ": ")?;
     let missing = sheets.lack_on(pair, Side::First);
     push_after_rack(text, &sheets.first, pair.first, missing, named)?;
-    say(text, &[Part::Say(" | ")])?;
+    say!(text; " | ")?;
     let missing = sheets.lack_on(pair, Side::Second);
     push_after_rack(text, &sheets.second, pair.second, missing, named)
 }

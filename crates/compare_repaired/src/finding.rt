@@ -45,7 +45,6 @@ fn repaired_by(
         rules,
         list,
         &mut written,
-        &[],
         below,
         MOST_REPAIRS,
         Some(LIMIT),

@@ -2,6 +2,7 @@
 
 use draft_answers::DraftFault;
 use engine_stages::{Decision, InputFault};
+use explain_parts::say;
 use gcg_drafts::Amiss;
 use std::alloc::{AllocError, Global};
 
@@ -30,7 +31,5 @@ pub fn push_draft_fault(
     let Some(amiss) = &fault.amiss else {
         return Ok(());
     };
-    text.extend_from_slice(amiss_words(amiss).as_bytes())?;
-    text.push(b'\n')?;
-    Ok(())
+    say!(text; amiss_words(amiss), "\n")
 }

@@ -2,31 +2,21 @@
 
 use draft_answers::{DraftNext, NextLine, NextSide};
 use engine_stages::{GameFault, illegal_line};
+use explain_parts::say;
 use game_walk::Refusal;
 use gcg_read::{Players, Seat};
 use std::alloc::{AllocError, Global};
-use text_decimals::push_number;
 
-/// Appends the nickname of a player, or which player it is if there is none yet.
-fn push_name(text: &mut Vec<u8>, players: &Players, player: Seat) -> Result<(), AllocError> {
+/// The nickname of a player, or which player it is if there is none yet.
+fn name_of(players: &Players, player: Seat) -> &[u8] {
     let nick = players.of(player).nick.as_bytes();
     if !nick.is_empty() {
-        return text.extend_from_slice(nick);
+        return nick;
     }
-    text.extend_from_slice(match player {
+    match player {
         Seat::First => b"player 1".as_slice(),
         Seat::Second => b"player 2".as_slice(),
-    })
-}
-
-/// Appends a number of tiles.
-fn push_tiles(text: &mut Vec<u8>, many: usize) -> Result<(), AllocError> {
-    push_number(text, many)?;
-    text.extend_from_slice(if many == 1 {
-        b" tile\n".as_slice()
-    } else {
-        b" tiles\n".as_slice()
-    })
+    }
 }
 
 /// Appends a line with what a player has.
@@ -36,29 +26,21 @@ fn push_side(
     player: Seat,
     side: &NextSide,
 ) -> Result<(), AllocError> {
-    push_name(text, players, player)?;
-    text.extend_from_slice(b": total ")?;
-    push_number(text, side.total)?;
-    text.extend_from_slice(b", ")?;
-    push_tiles(text, side.rack)
+    say!(text; name_of(players, player), ": total ", side.total, ", ", (side.rack, "tile"), "\n")
 }
 
 /// Appends whose turn it is, or that turns are over.
 fn push_turn(text: &mut Vec<u8>, players: &Players, next: &NextLine) -> Result<(), AllocError> {
     if next.complete {
-        return text.extend_from_slice(b"the game is complete\n");
+        return say!(text; "the game is complete\n");
     }
     if let Some(player) = next.out {
-        push_name(text, players, player)?;
-        return text.extend_from_slice(b" is out\n");
+        return say!(text; name_of(players, player), " is out\n");
     }
-    let Some(player) = next.turn else {
-        return text.extend_from_slice(b"next: either player\n");
-    };
-    text.extend_from_slice(b"next: ")?;
-    push_name(text, players, player)?;
-    text.push(b'\n')?;
-    Ok(())
+    match next.turn {
+        Some(player) => say!(text; "next: ", name_of(players, player), "\n"),
+        None => say!(text; "next: either player\n"),
+    }
 }
 
 /// Appends the verdict on the line that the rules refuse with any numbers, if there is one.
@@ -85,6 +67,5 @@ pub fn push_next(alloc: Global, text: &mut Vec<u8>, draft: &DraftNext) -> Result
     push_turn(text, players, next)?;
     push_side(text, players, Seat::First, &next.first)?;
     push_side(text, players, Seat::Second, &next.second)?;
-    text.extend_from_slice(b"bag: ")?;
-    push_tiles(text, next.bag)
+    say!(text; "bag: ", (next.bag, "tile"), "\n")
 }

@@ -1,3 +1,4 @@
 pub mod Numbered
 pub mod Whole
 pub mod Examples
+pub mod LackExamples

@@ -5,12 +5,12 @@ use Rattle.std.proofs.lemmas.Option.{same_Some}
 use Rattle.ref_tiles.specs.declared.rulebook.Rules.{Rules}
 use Rattle.gcg_read.specs.declared.events.Event.{Event}
 use Rattle.game_board.specs.Places.{is_from, place_of_line}
-use Rattle.explain_openings.specs.Openings.{place_of_fault}
+use Rattle.explain_answers.specs.Openings.{place_of_fault}
 use Rattle.game_case.specs.declared.entries.Entry.{Entry}
 use Rattle.game_case.specs.declared.findings.Finding.{Finding}
 use Rattle.game_case.specs.declared.findings.Finding.TheVariants as finding
-use Rattle.explain_events.specs.declared.explaining.Explanation.{Explanation}
-use Rattle.explain_events.specs.Explaining.{SayTheRacks, ExplainsEvent}
+use Rattle.explain_answers.specs.declared.events.Explanation.{Explanation}
+use Rattle.explain_answers.specs.Events.{SayTheRacks, ExplainsEvent}
 use Rattle.engine_stages.specs.declared.verdicts.GameFault.{GameFault}
 use Rattle.explain_answers.specs.Explaining.{AreWholeFacts, SayTheFinding, ExplainsAt, IsExplanationAt}
 

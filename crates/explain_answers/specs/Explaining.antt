@@ -4,7 +4,7 @@ use Rattle.ref_tiles.specs.declared.rulebook.Rules.{Rules}
 use Rattle.gcg_read.specs.declared.events.Event.{Event}
 use Rattle.game_turns.specs.Places.{AreAllowed}
 use Rattle.game_board.specs.Places.{place_of_line}
-use Rattle.explain_openings.specs.Openings.{place_of_fault}
+use Rattle.explain_answers.specs.Openings.{place_of_fault}
 use Rattle.game_case.specs.declared.entries.Entry.{Entry}
 use Rattle.game_case.specs.declared.findings.Finding.{Finding}
 use Rattle.game_case.specs.declared.findings.Finding.TheVariants as finding
@@ -12,9 +12,9 @@ use Rattle.explain_facts.specs.declared.facts.Fact.{Fact}
 use Rattle.explain_facts.specs.declared.facts.Fact.TheVariants as fact
 use Rattle.explain_facts.specs.declared.facts.games.GameFact.TheVariants as game_fact
 use Rattle.explain_facts.specs.Wholes.{AreNotes}
-use Rattle.explain_events.specs.declared.explaining.Explanation.{Explanation}
+use Rattle.explain_answers.specs.declared.events.Explanation.{Explanation}
 use Rattle.engine_stages.specs.declared.verdicts.GameFault.{GameFault}
-use Rattle.explain_events.specs.Explaining.{SayTheRacks, ExplainsEvent}
+use Rattle.explain_answers.specs.Events.{SayTheRacks, ExplainsEvent}
 
 -- what is found of a record as a whole
 abbrev pub whole_facts : Finding → List Fact

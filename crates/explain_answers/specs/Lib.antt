@@ -1,1 +1,4 @@
 pub mod Explaining
+pub mod Events
+pub mod Judging
+pub mod Openings

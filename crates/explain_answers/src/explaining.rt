@@ -1,17 +1,18 @@
 //! What explains a record, or its event on a line.
 ghost use Rattle.std.specs.Prelude.{◌≡◌, ◌<◌, ◌∷◌, [], Some, None, IfOk, OnOk, length};
 ghost use Rattle.game_walk.specs.Walks.{IsWalkOf};
-ghost use Rattle.explain_events.specs.Explaining.{ExplainsEvent};
+ghost use Rattle.explain_answers.specs.Events.{ExplainsEvent};
 ghost use Rattle.explain_facts.specs.declared.facts.Fact.TheVariants as fact;
 ghost use Rattle.std.specs.Option.{option_copied};
 ghost use Rattle.engine_stages.specs.declared.verdicts.GameFault.{GameFault};
 ghost use Rattle.game_case.specs.declared.findings.Finding.TheVariants.{Illegal};
 ghost use Rattle.explain_answers.specs.Explaining.{GoOnWithNotes, AreWholeFacts, SayTheFinding, IsExplanation};
 
+use crate::events::{Explanation, explain_event};
+use crate::openings::place_of_fault;
+use crate::passing::passed_by;
 use engine_stages::GameFault;
-use explain_events::{Explanation, explain_event, passed_by};
 use explain_facts::{Fact, GameFact, push_notes};
-use explain_openings::place_of_fault;
 use game_board::place_of_line;
 use game_case::{Entry, Finding};
 use game_walk::Walk;

@@ -1,3 +1,4 @@
 pub mod Sums
 pub mod Steps
 pub mod Dropping
+pub mod WordLaws

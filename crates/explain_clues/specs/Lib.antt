@@ -4,3 +4,5 @@ pub mod Texts
 pub mod Spots
 pub mod Totals
 pub mod Lines
+pub mod Plays
+pub mod Boards

@@ -9,10 +9,10 @@ use Rattle.game_turns.specs.LatestEvents.{standing_words}
 use Rattle.game_turns.specs.Tallies.{State, tally_at}
 use Rattle.explain_facts.specs.declared.facts.Fact.{Fact}
 use Rattle.explain_facts.specs.declared.facts.games.RackPart.{RackPart}
-use Rattle.explain_facts.specs.declared.facts.spelled.Spelled.{Spelled}
+use Rattle.game_turns.specs.declared.unlisted.SpelledWord.{SpelledWord}
 use Rattle.explain_facts.specs.declared.facts.games.UnlistedPlay.{UnlistedPlay}
-use Rattle.explain_facts.specs.Spelling.{letters_in}
-use Rattle.explain_facts.specs.Wholes.{ReportsUnlisted, ReportsHidden, AddsNotes, UnlistedValue, play_in, words_in, other_list, unlisted_of, play_with, unlisted_play, unlisted_to, turn_line, hidden_line, part_line, turns_to, hidden_to, parts_to, due_facts}
+use Rattle.game_turns.specs.Unlisted.{letters_in, unlisted_of}
+use Rattle.explain_facts.specs.Wholes.{ReportsUnlisted, ReportsHidden, AddsNotes, UnlistedValue, play_in, words_in, other_list, play_with, unlisted_play, unlisted_to, turn_line, hidden_line, part_line, turns_to, hidden_to, parts_to, due_facts}
 
 -- what is read at a place within a list is there
 pub read_there : {X : Type 0} (xs : List X) (place : ℕ) (x : X) → place < length xs → x ≡ get_or xs place x → slice_get xs place ≡ Some x
@@ -54,7 +54,7 @@ words_next plays k many p below is size =
     let later = words_in (map play_in (drop (k + 1) plays)) in
     ap (λ (ps : List UnlistedPlay). words_in (map play_in ps)) (drop_more plays k p below)
     ∙ ap (λ (q : UnlistedPlay). length (letters_in q.words.items) + later) (sym is)
-    ∙ ap (λ n. n + later) (length-map p.words.items (λ (word : Spelled). word.letters.items) ∙ sym size)
+    ∙ ap (λ n. n + later) (length-map p.words.items (λ (word : SpelledWord). word.letters.items) ∙ sym size)
 
 -- so many of one play that with those before they are ten
 pub ten_reached : (plays : List UnlistedPlay) (k many remaining : ℕ) (p : UnlistedPlay) → k < length plays → p ≡ get_or plays k p → many ≡ length p.words.items → remaining ≤ many

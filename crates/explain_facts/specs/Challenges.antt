@@ -8,12 +8,12 @@ use Rattle.gcg_read.specs.Players.{same_seat}
 use Rattle.game_turns.specs.Tallies.{is_play}
 use Rattle.game_turns.specs.LatestEvents.{latest_words}
 use Rattle.game_turns.specs.Checks.{listed_in}
-use Rattle.explain_facts.specs.declared.facts.spelled.Spelled.{Spelled}
+use Rattle.game_turns.specs.declared.unlisted.SpelledWord.{SpelledWord}
 use Rattle.explain_facts.specs.declared.facts.challenges.ChallengeFact.{ChallengeFact}
 use Rattle.explain_facts.specs.declared.facts.challenges.ChallengeFact.TheVariants as challenge_fact
 use Rattle.explain_facts.specs.Moments.{Moment, last_event}
 use Rattle.explain_facts.specs.Kinds.{is_withdrawal, is_challenge}
-use Rattle.explain_facts.specs.Spelling.{letters_in}
+use Rattle.game_turns.specs.Unlisted.{letters_in}
 
 abbrev pub where_play : Option Event → Option Event
 where_play None = None
@@ -24,7 +24,7 @@ abbrev pub play_before : (past : List Event) → Option Event
 play_before past = where_play (last_event past)
 
 -- the line of the event before, which is a play, and the words of the play, of which there are some
-pub record AreWordsBefore (m : Moment) (line : ℕ) (words : List Spelled) : Type 0 where
+pub record AreWordsBefore (m : Moment) (line : ℕ) (words : List SpelledWord) : Type 0 where
   pub latest : Event
   pub is_play_before : play_before m.past ≡ Some latest
   pub on_line : latest.line ≡ line
@@ -32,10 +32,10 @@ pub record AreWordsBefore (m : Moment) (line : ℕ) (words : List Spelled) : Typ
   pub some : 0 < length words
 
 -- each of some words is in the list, and none of them is
-abbrev pub AreListed : (list : List (List ℕ)) → List Spelled → Type 0
+abbrev pub AreListed : (list : List (List ℕ)) → List SpelledWord → Type 0
 AreListed list words = list_all (is_listed list) (letters_in words) ≡ true
 
-abbrev pub AreUnlisted : (list : List (List ℕ)) → List Spelled → Type 0
+abbrev pub AreUnlisted : (list : List (List ℕ)) → List SpelledWord → Type 0
 AreUnlisted list words = list_any (is_listed list) (letters_in words) ≡ false
 
 -- the event before is a play on a line, by the opponent of the player of the event

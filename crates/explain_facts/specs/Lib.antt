@@ -1,6 +1,5 @@
 pub mod Moments
 pub mod Kinds
-pub mod Spelling
 pub mod Elsewhere
 pub mod Turns
 pub mod Orders

@@ -19,7 +19,7 @@ use Rattle.explain_facts.specs.declared.facts.readings.ReadingFact.{ReadingFact}
 use Rattle.explain_facts.specs.declared.facts.readings.ReadingFact.TheVariants as reading_fact
 use Rattle.explain_facts.specs.Moments.{Moment}
 use Rattle.explain_facts.specs.Kinds.{OfPlay}
-use Rattle.explain_facts.specs.Spelling.{letters_in}
+use Rattle.game_turns.specs.Unlisted.{letters_in}
 
 -- a blank in place of a letter tile, and a letter tile in place of a blank; both show the same letter
 abbrev pub swapped : Symbol → Symbol

@@ -1,9 +1,7 @@
 -- What is said about a record whose events the rules allow: which plays stand with words that are not in the list, which turns show no
 -- rack or only a part of it, which last rack is missing, and whether the list may be another one.
 use Rattle.std.specs.Prelude.{◌≡◌, ℕ, zero, suc, ◌+◌, ◌&&◌, nat_lt, nat_le, sum, Bool, true, false, List, [], ◌∷◌, ◌++◌, length, map, slice_get, Option, Some, None, is_none, if◌then◌else◌}
-use Rattle.std.specs.List.{flat_map}
 use Rattle.ref_tiles.specs.declared.rulebook.Rules.{Rules}
-use Rattle.lex_list.specs.Words.{is_listed}
 use Rattle.gcg_read.specs.declared.events.Seat.{Seat}
 use Rattle.gcg_read.specs.declared.events.Seat.TheVariants.{First, Second}
 use Rattle.gcg_read.specs.Players.{other_seat}
@@ -19,7 +17,7 @@ use Rattle.explain_facts.specs.declared.facts.games.GameFact.TheVariants as game
 use Rattle.explain_facts.specs.declared.facts.turns.TurnFact.TheVariants as turn_fact
 use Rattle.explain_facts.specs.declared.facts.games.UnlistedPlay.{UnlistedPlay}
 use Rattle.explain_facts.specs.declared.facts.games.RackPart.{RackPart}
-use Rattle.explain_facts.specs.Spelling.{letters_in}
+use Rattle.game_turns.specs.Unlisted.{letters_in, unlisted_of}
 
 -- ---- plays that stand with words that are not in the list
 
@@ -31,13 +29,6 @@ pub record UnlistedValue : Type 0 where
 
 abbrev pub play_in : UnlistedPlay → UnlistedValue
 play_in p = record { line = p.line; player = p.player; words = letters_in p.words.items }
-
-abbrev pub unlisted_one : (list : List (List ℕ)) → List ℕ → List (List ℕ)
-unlisted_one list word = if is_listed list word then [] else word ∷ []
-
--- the words that are not in the list, in order
-abbrev pub unlisted_of : (list : List (List ℕ)) → List (List ℕ) → List (List ℕ)
-unlisted_of list words = flat_map (unlisted_one list) words
 
 abbrev pub play_with : Event → (words : List (List ℕ)) → List UnlistedValue
 play_with e [] = []

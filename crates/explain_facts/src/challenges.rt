@@ -5,28 +5,29 @@ ghost use Rattle.game_turns.specs.Checks.{listed_in};
 ghost use Rattle.ref_play.specs.Words.{items_of};
 ghost use Rattle.game_turns.specs.declared.faults.RuleFault.TheVariants as fault;
 ghost use Rattle.explain_facts.specs.Moments.{moment_of, IsRefusedFor};
-ghost use Rattle.explain_facts.specs.Spelling.{letters_in};
+ghost use Rattle.game_turns.specs.Unlisted.{letters_in};
 ghost use Rattle.explain_facts.specs.Kinds.{is_withdrawal};
 ghost use Rattle.explain_facts.specs.Challenges.{play_before, is_amount};
 ghost use Rattle.gcg_read.specs.Players.{same_seat};
 ghost use Rattle.explain_facts.specs.Facts.{IsTrue};
 ghost use Rattle.explain_facts.specs.FaultFacts.{says, IsTallied};
 
-use crate::facts::{ChallengeFact, Fact, Spelled};
+use crate::facts::{ChallengeFact, Fact};
 use crate::scenes::Scene;
+use game_turns::SpelledWord;
 use gcg_read::{Event, EventKind, same_seat};
 use lex_list::WordList;
 use ref_play::Word;
 use std::alloc::{AllocError, Global};
 
 /// The letters of words.
-pub(crate) fn spelled(alloc: Global, words: &[Word]) -> Result<Vec<Spelled>, AllocError>
+pub(crate) fn spelled(alloc: Global, words: &[Word]) -> Result<Vec<SpelledWord>, AllocError>
     ensures { IfOk result (λ kept. letters_in kept.items ≡ items_of words.now) }
 {
     let mut kept = Vec::new(alloc);
     for word in words {
         let letters = Vec::from_slice(alloc, word.as_slice())?;
-        kept.push(Spelled { letters })?;
+        kept.push(SpelledWord { letters })?;
     }
     Ok(kept)
 }

@@ -21,7 +21,7 @@ mod wholes;
 pub use deals::{dealt_to, no_deal};
 pub use facts::{
     ChallengeFact, ClashLine, DealFact, ExchangeLine, Fact, GameFact, KindLine, Leaving, OrderFact,
-    PlayFact, RackFact, RackLine, RackPart, ReadingFact, RulingFact, ScoreFact, Spelled, TileFact,
+    PlayFact, RackFact, RackLine, RackPart, ReadingFact, RulingFact, ScoreFact, TileFact,
     TotalFact, TurnFact, UnlistedPlay,
 };
 pub use racks::{left_over, rack_too_big, tiles_short};

@@ -3,11 +3,10 @@ ghost use Rattle.std.specs.Prelude.{◌≡◌, ◌++◌, ◌∷◌, IfOk, filter
 ghost use Rattle.explain_facts.specs.Moments.{moment_of};
 ghost use Rattle.explain_facts.specs.Elsewhere.{allows_to, event_at, stands_at};
 
-use crate::orders::{copied_text, push_copies};
 use crate::scenes::Scene;
 use explain_clues::Spot;
 use game_turns::play_events;
-use gcg_read::{Event, EventKind, Text};
+use gcg_read::{Event, EventKind, Events, Text};
 use lex_list::WordList;
 use ref_tiles::Rules;
 use std::alloc::{AllocError, Global};
@@ -34,7 +33,7 @@ fn event_at(event: &Event, word: &Text, spot: &Spot) -> Event
         kind: EventKind::Play {
             at: spot.at,
             dir: spot.dir,
-            word: copied_text(word),
+            word: word.copy(),
         },
         score: event.score,
         total: event.total,
@@ -42,18 +41,13 @@ fn event_at(event: &Event, word: &Text, spot: &Spot) -> Event
 }
 
 /// The record with the event as a play of a text at a spot.
-fn moved(
-    alloc: Global,
-    scene: &Scene<'_>,
-    word: &Text,
-    spot: &Spot,
-) -> Result<Vec<Event>, AllocError>
-    ensures { IfOk result (λ events. events.items ≡ scene.now.past.now ++ event_at scene.now.event.now word.now spot.now ∷ scene.now.later.now) }
+fn moved(alloc: Global, scene: &Scene<'_>, word: &Text, spot: &Spot) -> Result<Events, AllocError>
+    ensures { IfOk result (λ events. events ≡ scene.now.past.now ++ event_at scene.now.event.now word.now spot.now ∷ scene.now.later.now) }
 {
-    let mut events = Vec::new(alloc);
-    push_copies(&mut events, scene.past)?;
+    let mut events = Events::new(alloc);
+    events.push_copies(scene.past)?;
     events.push(event_at(scene.event, word, spot))?;
-    push_copies(&mut events, scene.later)?;
+    events.push_copies(scene.later)?;
     Ok(events)
 }
 

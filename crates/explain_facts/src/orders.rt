@@ -3,7 +3,6 @@ ghost use Rattle.std.specs.Prelude.{◌≡◌, ◌≤◌, ◌+◌, ◌++◌, ◌
 ghost use Rattle.std.specs.Option.{option_copied};
 ghost use Rattle.game_turns.specs.Places.{AreAllowedTo};
 ghost use Rattle.gcg_read.specs.declared.events.Event.{Event};
-ghost use Rattle.gcg_read.specs.declared.events.EventKind.TheVariants as event_kind;
 ghost use Rattle.explain_facts.specs.Moments.{moment_of};
 ghost use Rattle.explain_facts.specs.Facts.{IsTrue};
 ghost use Rattle.explain_facts.specs.Orders.{is_of};
@@ -11,117 +10,18 @@ ghost use Rattle.explain_facts.specs.Orders.{is_of};
 use crate::facts::{Fact, OrderFact};
 use crate::scenes::Scene;
 use game_turns::play_events;
-use gcg_read::{Event, EventKind, Points, Seat, Text, same_seat};
+use gcg_read::{Event, Events, Seat, same_seat};
 use lex_list::WordList;
-use ref_board::{Dir, Square};
-use ref_tiles::{Counts, Rules, Symbol};
+use ref_tiles::Rules;
 use std::alloc::{AllocError, Global};
 
 // ---- a line that is written twice
-
-/// Whether both are the same symbol: one byte writes both.
-#[tactic(auto, using(crate::proofs::OrderLaws::same_symbol))]
-fn same_symbol(symbol: Symbol, other: Symbol) -> bool
-    ensures { result ≡ true → symbol ≡ other }
-{
-    symbol.byte() == other.byte()
-}
-
-/// Whether both are the same symbols.
-#[tactic(auto, using(crate::proofs::OrderLaws::same_to))]
-fn same_symbols(word: &[Symbol], text: &[Symbol]) -> bool
-    ensures { result ≡ true → word.now ≡ text.now }
-{
-    if word.len() != text.len() {
-        return false;
-    }
-    for place in 0..word.len() {
-        if !same_symbol(word[place], text[place]) {
-            return false;
-        }
-    }
-    true
-}
-
-/// Whether both are the same tiles, or both are none.
-fn same_rack(rack: &Option<Counts>, other: &Option<Counts>) -> bool
-    ensures { result ≡ true → rack.now ≡ other.now }
-{
-    match (rack, other) {
-        (None, None) => true,
-        (Some(tiles), Some(others)) => tiles == others,
-        (None, Some(_)) | (Some(_), None) => false,
-    }
-}
-
-/// Whether both are the same number.
-fn same_points(points: Points, other: Points) -> bool
-    ensures { result ≡ true → points ≡ other }
-{
-    points == other
-}
-
-/// Whether an event is a play of this text.
-fn is_play_of(kind: &EventKind, at: Square, dir: Dir, word: &Text) -> bool
-    ensures { result ≡ true → kind.now ≡ event_kind.Play at dir word.now }
-{
-    match kind {
-        EventKind::Play {
-            at: square,
-            dir: way,
-            word: text,
-        } => {
-            if *square != at || *way != dir {
-                return false;
-            }
-            same_symbols(text.as_slice(), word.as_slice())
-        }
-        _ => false,
-    }
-}
-
-/// Whether two events are of the same kind, with the same squares, letters and tiles.
-fn is_same_kind(kind: &EventKind, other: &EventKind) -> bool
-    ensures { result ≡ true → kind.now ≡ other.now }
-{
-    match other {
-        EventKind::Play { at, dir, word } => is_play_of(kind, *at, *dir, word),
-        EventKind::Pass => matches!(kind, EventKind::Pass),
-        EventKind::Exchange(tiles) => match kind {
-            EventKind::Exchange(others) => others == tiles,
-            _ => false,
-        },
-        EventKind::ExchangeUnknown(many) => match kind {
-            EventKind::ExchangeUnknown(others) => others == many,
-            _ => false,
-        },
-        EventKind::Withdraw => matches!(kind, EventKind::Withdraw),
-        EventKind::Challenge => matches!(kind, EventKind::Challenge),
-        EventKind::Time => matches!(kind, EventKind::Time),
-        EventKind::LastRack(tiles) => match kind {
-            EventKind::LastRack(others) => others == tiles,
-            _ => false,
-        },
-    }
-}
 
 /// Whether two events differ only in their lines.
 fn says_the_same(event: &Event, other: &Event) -> bool
     ensures { result ≡ true → record event.now { line = other.now.line } ≡ other.now }
 {
-    if !same_seat(event.player, other.player) {
-        return false;
-    }
-    if !same_rack(&event.rack, &other.rack) {
-        return false;
-    }
-    if !same_points(event.score, other.score) {
-        return false;
-    }
-    if !same_points(event.total, other.total) {
-        return false;
-    }
-    is_same_kind(&event.kind, &other.kind)
+    same_seat(event.player, other.player) && event.says_the_same(other)
 }
 
 /// That the line before says the same.
@@ -137,66 +37,13 @@ fn stands_twice(scene: &Scene<'_>) -> Option<Fact>
 
 // ---- the events in another order, or with another player
 
-/// A copy of the text.
-pub(crate) fn copied_text(text: &Text) -> Text
-    ensures { result ≡ text.now }
-{
-    match Text::new(text.as_slice()) {
-        Some(copy) => copy,
-        None => unreachable!(),
-    }
-}
-
-/// A copy of the kind of an event.
-fn copied_kind(kind: &EventKind) -> EventKind
-    ensures { result ≡ kind.now }
-{
-    match kind {
-        EventKind::Play { at, dir, word } => EventKind::Play {
-            at: *at,
-            dir: *dir,
-            word: copied_text(word),
-        },
-        EventKind::Pass => EventKind::Pass,
-        EventKind::Exchange(tiles) => EventKind::Exchange(*tiles),
-        EventKind::ExchangeUnknown(many) => EventKind::ExchangeUnknown(*many),
-        EventKind::Withdraw => EventKind::Withdraw,
-        EventKind::Challenge => EventKind::Challenge,
-        EventKind::Time => EventKind::Time,
-        EventKind::LastRack(tiles) => EventKind::LastRack(*tiles),
-    }
-}
-
 /// A copy of the event as one of a player.
 fn copied_for(event: &Event, player: Seat) -> Event
     ensures { result ≡ record event.now { player = player } }
 {
-    Event {
-        line: event.line,
-        player,
-        rack: event.rack,
-        kind: copied_kind(&event.kind),
-        score: event.score,
-        total: event.total,
-    }
-}
-
-/// Appends a copy of an event.
-fn push_copy(events: &mut Vec<Event>, event: &Event) -> Result<(), AllocError>
-    ensures { OnOk result (events.new.items ≡ events.old.items ++ event.now ∷ []) }
-{
-    events.push(copied_for(event, event.player))?;
-    Ok(())
-}
-
-/// Appends copies of events.
-pub(crate) fn push_copies(events: &mut Vec<Event>, more: &[Event]) -> Result<(), AllocError>
-    ensures { OnOk result (events.new.items ≡ events.old.items ++ more.now) }
-{
-    for event in more {
-        push_copy(events, event)?;
-    }
-    Ok(())
+    let mut copy = event.copy();
+    copy.player = player;
+    copy
 }
 
 /// Whether the rules allow the first events.
@@ -208,14 +55,14 @@ fn are_allowed(rules: &Rules, list: &WordList, events: &[Event], end: usize) -> 
 }
 
 /// The events with the next one before this one.
-fn other_way(alloc: Global, scene: &Scene<'_>, next: &Event) -> Result<Vec<Event>, AllocError>
-    ensures { IfOk result (λ events. events.items ≡ scene.now.past.now ++ next.now ∷ scene.now.event.now ∷ drop 1 scene.now.later.now) }
+fn other_way(alloc: Global, scene: &Scene<'_>, next: &Event) -> Result<Events, AllocError>
+    ensures { IfOk result (λ events. events ≡ scene.now.past.now ++ next.now ∷ scene.now.event.now ∷ drop 1 scene.now.later.now) }
 {
-    let mut events = Vec::new(alloc);
-    push_copies(&mut events, scene.past)?;
-    push_copy(&mut events, next)?;
-    push_copy(&mut events, scene.event)?;
-    push_copies(&mut events, scene.later.get(1..).unwrap_or(&[]))?;
+    let mut events = Events::new(alloc);
+    events.push_copies(scene.past)?;
+    events.push(next.copy())?;
+    events.push(scene.event.copy())?;
+    events.push_copies(scene.later.get(1..).unwrap_or(&[]))?;
     Ok(events)
 }
 
@@ -238,13 +85,13 @@ fn wrong_way(alloc: Global, scene: &Scene<'_>) -> Result<Option<Fact>, AllocErro
 }
 
 /// The events with this one as the other player's.
-fn as_others(alloc: Global, scene: &Scene<'_>, other: Seat) -> Result<Vec<Event>, AllocError>
-    ensures { IfOk result (λ events. events.items ≡ scene.now.past.now ++ record scene.now.event.now { player = other } ∷ scene.now.later.now) }
+fn as_others(alloc: Global, scene: &Scene<'_>, other: Seat) -> Result<Events, AllocError>
+    ensures { IfOk result (λ events. events ≡ scene.now.past.now ++ record scene.now.event.now { player = other } ∷ scene.now.later.now) }
 {
-    let mut events = Vec::new(alloc);
-    push_copies(&mut events, scene.past)?;
+    let mut events = Events::new(alloc);
+    events.push_copies(scene.past)?;
     events.push(copied_for(scene.event, other))?;
-    push_copies(&mut events, scene.later)?;
+    events.push_copies(scene.later)?;
     Ok(events)
 }
 

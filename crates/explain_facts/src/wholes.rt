@@ -1,53 +1,22 @@
 //! What is said about a record whose events the rules allow: which plays stand with words that are not in the list, which turns show no
 //! rack or only a part of it, which last rack is missing, and whether the list may be another one.
 ghost use Rattle.std.specs.Prelude.{◌≡◌, ◌+◌, ◌<◌, ◌++◌, ◌∷◌, [], false, nat_le, map, length, slice_get, Some, None, IfOk, OnOk};
-ghost use Rattle.ref_play.specs.Words.{items_of};
 ghost use Rattle.game_turns.specs.Machines.{rules_of, state_of};
 ghost use Rattle.game_turns.specs.Passing.{rules_in, record_in, list_in};
 ghost use Rattle.game_turns.specs.Tallies.{tally_at};
-ghost use Rattle.explain_facts.specs.Spelling.{letters_in};
-ghost use Rattle.explain_facts.specs.Wholes.{play_in, unlisted_one, unlisted_of, play_with, unlisted_to, words_in, other_list, may_show, one_where, turn_line, hidden_line, part_by, part_line, turns_to, hidden_to, parts_to, due_by, due_facts, ReportsUnlisted, ReportsHidden, AddsNotes};
+ghost use Rattle.game_turns.specs.Unlisted.{letters_in};
+ghost use Rattle.explain_facts.specs.Wholes.{play_in, play_with, unlisted_to, words_in, other_list, may_show, one_where, turn_line, hidden_line, part_by, part_line, turns_to, hidden_to, parts_to, due_by, due_facts, ReportsUnlisted, ReportsHidden, AddsNotes};
 
-use crate::facts::{Fact, GameFact, RackPart, Spelled, TurnFact, UnlistedPlay};
-use game_turns::{Machine, Passed};
+use crate::facts::{Fact, GameFact, RackPart, TurnFact, UnlistedPlay};
+use game_turns::{Machine, Passed, SpelledWord, unlisted_of};
 use gcg_read::{Event, EventKind, Seat};
-use lex_list::WordList;
-use ref_play::Word;
 use std::alloc::{AllocError, Global};
-
-/// Appends a word, if it is not in the list.
-fn push_unlisted(
-    alloc: Global,
-    kept: &mut Vec<Spelled>,
-    list: &WordList,
-    word: &Word,
-) -> Result<(), AllocError>
-    ensures { OnOk result (letters_in kept.new.items ≡ letters_in kept.old.items ++ unlisted_one list.now word.now.items) }
-{
-    if list.has(word.as_slice()) {
-        return Ok(());
-    }
-    let letters = Vec::from_slice(alloc, word.as_slice())?;
-    kept.push(Spelled { letters })?;
-    Ok(())
-}
-
-/// The words that are not in the list, in order.
-fn unlisted_of(alloc: Global, list: &WordList, words: &[Word]) -> Result<Vec<Spelled>, AllocError>
-    ensures { IfOk result (λ kept. letters_in kept.items ≡ unlisted_of list.now (items_of words.now)) }
-{
-    let mut kept = Vec::new(alloc);
-    for word in words {
-        push_unlisted(alloc, &mut kept, list, word)?;
-    }
-    Ok(kept)
-}
 
 /// Appends a play with words that are not in the list, if it has any.
 fn push_play(
     plays: &mut Vec<UnlistedPlay>,
     event: &Event,
-    words: Vec<Spelled>,
+    words: Vec<SpelledWord>,
 ) -> Result<(), AllocError>
     ensures { OnOk result (map play_in plays.new.items ≡ map play_in plays.old.items ++ play_with event.now (letters_in words.items)) }
 {

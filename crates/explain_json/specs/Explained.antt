@@ -4,10 +4,10 @@ use Rattle.json.specs.Json.{Json, null, string}
 use Rattle.json_trees.specs.Values.{Field, count, object_of, or_null, text}
 use Rattle.engine_stages.specs.declared.verdicts.Verdict.{Verdict}
 use Rattle.engine_stages.specs.declared.verdicts.Verdict.TheVariants as verdict
-use Rattle.explain_events.specs.declared.explaining.Shown.{Shown}
-use Rattle.explain_events.specs.declared.explaining.Picture.{Picture}
-use Rattle.explain_events.specs.declared.explaining.Picture.TheVariants as picture
-use Rattle.explain_events.specs.declared.explaining.Explanation.{Explanation}
+use Rattle.explain_answers.specs.declared.events.Shown.{Shown}
+use Rattle.explain_answers.specs.declared.events.Picture.{Picture}
+use Rattle.explain_answers.specs.declared.events.Picture.TheVariants as picture
+use Rattle.explain_answers.specs.declared.events.Explanation.{Explanation}
 use Rattle.gcg_unread.specs.declared.lines.UnreadLine.{UnreadLine}
 use Rattle.json_base.specs.Values.{unread_value}
 use Rattle.json_base.specs.Verdicts.{ending_value, fault_line_value, fault_value, verdict_object, verdict_word}

@@ -3,7 +3,7 @@ use Rattle.std.specs.Prelude.{ℕ, List, [], ◌∷◌, codes, map}
 use Rattle.json.specs.Json.{Json, string}
 use Rattle.json_trees.specs.Values.{Field, array_of, count, object_of, text}
 use Rattle.ref_board.specs.declared.directions.Dir.TheVariants.{Across}
-use Rattle.explain_facts.specs.declared.facts.spelled.Spelled.{Spelled}
+use Rattle.game_turns.specs.declared.unlisted.SpelledWord.{SpelledWord}
 use Rattle.json_base.specs.Values.{place_value}
 
 -- the name of a fact
@@ -23,10 +23,10 @@ abbrev pub byte_value : ℕ → Json
 byte_value byte = text (byte ∷ [])
 
 -- words of plays
-abbrev pub spelled_value : Spelled → Json
+abbrev pub spelled_value : SpelledWord → Json
 spelled_value word = text word.letters.items
 
-abbrev pub words_value : List Spelled → Json
+abbrev pub words_value : List SpelledWord → Json
 words_value words = array_of (map spelled_value words)
 
 -- numbers of lines, or of other things

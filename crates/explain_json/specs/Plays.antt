@@ -8,7 +8,7 @@ use Rattle.explain_facts.specs.declared.facts.plays.PlayFact.{PlayFact}
 use Rattle.explain_facts.specs.declared.facts.plays.PlayFact.TheVariants as play
 use Rattle.explain_facts.specs.declared.facts.readings.ReadingFact.{ReadingFact}
 use Rattle.explain_facts.specs.declared.facts.readings.ReadingFact.TheVariants as reading
-use Rattle.explain_facts.specs.declared.facts.spelled.Spelled.{Spelled}
+use Rattle.game_turns.specs.declared.unlisted.SpelledWord.{SpelledWord}
 use Rattle.json_base.specs.Faults.{tile_value}
 use Rattle.json_base.specs.Values.{tiles_value}
 use Rattle.json_base.specs.Words.{direction_word}
@@ -87,7 +87,7 @@ not_on_rack_object kind played has rack = object_of (
     ∷ [])
 
 -- the same as for a blank, with the score that is written and the words of the play
-abbrev pub misread_object : (square letter read : ℕ) → List Spelled → (score written : ℤ) → Json
+abbrev pub misread_object : (square letter read : ℕ) → List SpelledWord → (score written : ℤ) → Json
 misread_object square letter read words score written = object_of (
     named (codes "Misread")
     ∷ (codes "square", square_value square)

@@ -10,7 +10,7 @@ use Rattle.explain_facts.specs.declared.facts.totals.TotalFact.{TotalFact}
 use Rattle.explain_facts.specs.declared.facts.totals.TotalFact.TheVariants as total
 use Rattle.explain_facts.specs.declared.facts.challenges.ChallengeFact.{ChallengeFact}
 use Rattle.explain_facts.specs.declared.facts.challenges.ChallengeFact.TheVariants as challenge
-use Rattle.explain_facts.specs.declared.facts.spelled.Spelled.{Spelled}
+use Rattle.game_turns.specs.declared.unlisted.SpelledWord.{SpelledWord}
 use Rattle.json_base.specs.Values.{tiles_value}
 use Rattle.json_base.specs.Words.{direction_word, player_number}
 use Rattle.explain_json.specs.Parts.{bare, named, numbers_value, square_value, words_value}
@@ -108,7 +108,7 @@ total_object (total.TimeStep step written) = step_object step written
 total_object (total.SecondTime player line) = penalty_object player line
 
 -- the line of a play, and its words
-abbrev pub play_words_object : (name : List ℕ) → (line : ℕ) → List Spelled → Json
+abbrev pub play_words_object : (name : List ℕ) → (line : ℕ) → List SpelledWord → Json
 play_words_object name line words = object_of (
     named name
     ∷ (codes "line", count line)

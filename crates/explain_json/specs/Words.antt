@@ -10,10 +10,10 @@ use Rattle.ref_tiles.specs.declared.tiles.Tile.{Tile}
 use Rattle.ref_tiles.specs.declared.premiums.Premium.{Premium}
 use Rattle.ref_tiles.specs.declared.premiums.Premium.TheVariants as premium
 use Rattle.ref_play.specs.Notations.{symbol_by}
-use Rattle.explain_plays.specs.declared.words.PlayedSquare.{PlayedSquare}
-use Rattle.explain_plays.specs.declared.words.PlayedWord.{PlayedWord}
-use Rattle.explain_plays.specs.declared.words.ScoredPlay.{ScoredPlay}
-use Rattle.explain_plays.specs.declared.boards.ShownSquare.{ShownSquare}
+use Rattle.explain_clues.specs.declared.plays.PlayedSquare.{PlayedSquare}
+use Rattle.explain_clues.specs.declared.plays.PlayedWord.{PlayedWord}
+use Rattle.explain_clues.specs.declared.plays.ScoredPlay.{ScoredPlay}
+use Rattle.explain_clues.specs.declared.boards.ShownSquare.{ShownSquare}
 use Rattle.explain_json.specs.Parts.{byte_value, square_value}
 
 -- ---- words

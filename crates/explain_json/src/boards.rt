@@ -7,7 +7,7 @@ ghost use Rattle.json_trees.specs.Values.{array_of};
 ghost use Rattle.explain_json.specs.Words.{board_object, mark_at, mark_in, marked_rows, marked_to, name_at, name_if, row_value};
 
 use crate::fact_parts::square_tree;
-use explain_plays::ShownSquare;
+use explain_clues::ShownSquare;
 use json_base::item_at;
 use json_trees::{Tree, array, object, text_tree};
 use ref_board::{Dir, SIDE, Square};

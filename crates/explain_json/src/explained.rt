@@ -10,8 +10,8 @@ use crate::boards::board_tree;
 use crate::facts::facts_array;
 use crate::words::scored_tree;
 use engine_stages::Verdict;
-use explain_events::{Explanation, Picture};
-use explain_plays::ScoredPlay;
+use explain_answers::{Explanation, Picture};
+use explain_clues::ScoredPlay;
 use gcg_unread::UnreadLine;
 use json_base::{
     ending_tree, fault_line_tree, fault_tree, unread_array, verdict_name, verdict_tree,

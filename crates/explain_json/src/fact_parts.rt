@@ -3,7 +3,7 @@ ghost use Rattle.std.specs.Prelude.{◌≡◌, IfOk};
 ghost use Rattle.json_trees.specs.Trees.{view};
 ghost use Rattle.explain_json.specs.Parts.{bare, byte_value, numbers_value, square_value, words_value};
 
-use explain_facts::Spelled;
+use game_turns::SpelledWord;
 use json_base::place_tree;
 use json_trees::{Tree, array, count_tree, name_tree, object, size_tree, text_tree};
 use ref_board::{Dir, Square};
@@ -33,7 +33,7 @@ pub fn byte_tree(alloc: Global, byte: u8) -> Result<Tree, AllocError>
 }
 
 /// Words as texts.
-pub fn words_tree(alloc: Global, words: &[Spelled]) -> Result<Tree, AllocError>
+pub fn words_tree(alloc: Global, words: &[SpelledWord]) -> Result<Tree, AllocError>
     ensures { IfOk result (λ tree. view tree ≡ words_value words.now) }
 {
     let mut trees = Vec::new(alloc);

@@ -1,6 +1,6 @@
 //! Explanations as trees, for programs.
 //!
-//! [`explained_tree`] takes the value that `explain_events` makes; its contract says that the tree is exactly the object that `specs/` defines for it. It does not ask the engine, add numbers or look at a record. The verdict comes first, then the line and each fact with its name
+//! [`explained_tree`] takes the value that `explain_answers` makes; its contract says that the tree is exactly the object that `specs/` defines for it. It does not ask the engine, add numbers or look at a record. The verdict comes first, then the line and each fact with its name
 //! and its numbers, and then the words of the play and the board.
 #![tactic(auto)]
 

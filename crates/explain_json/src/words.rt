@@ -5,7 +5,7 @@ ghost use Rattle.json_trees.specs.Values.{array_of};
 ghost use Rattle.explain_json.specs.Words.{cell_value, premium_value, scored_object, square_object, word_object};
 
 use crate::fact_parts::{byte_tree, square_tree};
-use explain_plays::{PlayedSquare, PlayedWord, ScoredPlay};
+use explain_clues::{PlayedSquare, PlayedWord, ScoredPlay};
 use game_board::tile_mark;
 use json_trees::{
     Tree, array, bool_tree, count_or_null, count_tree, integer_tree, name_tree, null_tree, object,

@@ -1,9 +1,9 @@
 //! The board before a line, with the squares of a play in brackets.
 
 use crate::words::push_play;
-use explain_events::Shown;
-use explain_parts::{Part, say, say_of_line};
-use explain_plays::ShownSquare;
+use explain_answers::Shown;
+use explain_clues::ShownSquare;
+use explain_parts::say;
 use std::alloc::AllocError;
 
 /// How many squares a row has.
@@ -19,7 +19,7 @@ pub fn push_shown(text: &mut Vec<u8>, line: u32, shown: &Shown) -> Result<(), Al
     } else {
         "\n"
     };
-    say_of_line(text, "board before line ", line, end)?;
+    say!(text; "board before line ", line, end)?;
     push_board(text, shown.squares.as_slice())
 }
 
@@ -43,22 +43,12 @@ fn push_squares(text: &mut Vec<u8>, row: &[ShownSquare]) -> Result<(), AllocErro
     text.extend_from_slice(if before { b"]\n" } else { b"\n" })
 }
 
-/// Appends the number of a row.
-fn push_row_number(text: &mut Vec<u8>, number: usize) -> Result<(), AllocError> {
-    say(
-        text,
-        &[
-            Part::Say(if number < 10 { " " } else { "" }),
-            Part::Many(number),
-        ],
-    )
-}
-
 /// Appends the squares of a board, with those of a play in brackets.
 fn push_board(text: &mut Vec<u8>, squares: &[ShownSquare]) -> Result<(), AllocError> {
     text.extend_from_slice(b"   A B C D E F G H I J K L M N O\n")?;
     for row in 0..SIDE {
-        push_row_number(text, row + 1)?;
+        let front = if row < 9 { " " } else { "" };
+        say!(text; front, row + 1)?;
         push_squares(
             text,
             squares.get(SIDE * row..SIDE * row + SIDE).unwrap_or(&[]),

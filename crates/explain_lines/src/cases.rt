@@ -1,12 +1,11 @@
 //! What explains a case.
 ghost use Rattle.std.specs.Prelude.{◌≡◌, ◌++◌, OnOk};
-ghost use Rattle.explain_openings.specs.Openings.{opening, GoesOn};
+ghost use Rattle.explain_answers.specs.Openings.{opening, GoesOn};
 
 use crate::boards::push_shown;
 use crate::facts::push_facts;
-use explain_events::{Explanation, Picture};
-use explain_openings::push_opening;
-use explain_parts::say_of_line;
+use explain_answers::{Explanation, Picture, push_opening};
+use explain_parts::say;
 use explain_records::{
     push_fault_sentences, push_other_faults, push_time_racks, push_unread_lines,
 };
@@ -86,12 +85,8 @@ fn push_reported(
     };
     match &reported.picture {
         None => Ok(()),
-        Some(Picture::Unknown { line }) => say_of_line(
-            text,
-            "The board before this line is not known, since the play on line ",
-            *line,
-            " cannot be laid.\n",
-        ),
+        Some(Picture::Unknown { line }) =>
+            say!(text; "The board before this line is not known, since the play on line ", *line, " cannot be laid.\n"),
         Some(Picture::Shown(shown)) => push_shown(text, line, shown),
     }
 }

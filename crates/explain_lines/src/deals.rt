@@ -2,7 +2,7 @@
 
 use crate::names::nick;
 use explain_facts::{ClashLine, DealFact, ExchangeLine};
-use explain_parts::{Part, push_tiles, say, say_of_line};
+use explain_parts::say;
 use gcg_read::Players;
 use std::alloc::AllocError;
 
@@ -13,22 +13,11 @@ fn push_clash(
     lines: &[ClashLine],
 ) -> Result<(), AllocError> {
     if lines.is_empty() {
-        return text.extend_from_slice(
-            b"Even if no rack were shown, no deal would give the plays and the exchanges.\n",
-        );
+        return say!(text; "Even if no rack were shown, no deal would give the plays and the exchanges.\n");
     }
-    text.extend_from_slice(b"Even if only these tiles were shown, no deal would give them:\n")?;
+    say!(text; "Even if only these tiles were shown, no deal would give them:\n")?;
     for line in lines {
-        say_of_line(text, "  line ", line.line, " shows ")?;
-        push_tiles(text, &line.tiles)?;
-        say(
-            text,
-            &[
-                Part::Say(" on "),
-                Part::Raw(nick(players, line.player)),
-                Part::Say("'s rack\n"),
-            ],
-        )?;
+        say!(text; "  line ", line.line, " shows ", &line.tiles, " on ", nick(players, line.player), "'s rack\n")?;
     }
     Ok(())
 }
@@ -39,18 +28,9 @@ fn push_exchanges(
     players: &Players,
     exchanges: &[ExchangeLine],
 ) -> Result<(), AllocError> {
-    text.extend_from_slice(b"Compare the racks with the exchanges:\n")?;
+    say!(text; "Compare the racks with the exchanges:\n")?;
     for exchange in exchanges {
-        say_of_line(text, "  line ", exchange.line, ": ")?;
-        say(
-            text,
-            &[
-                Part::Raw(nick(players, exchange.player)),
-                Part::Say(" exchanges "),
-                Part::Things(exchange.tiles, "tile"),
-                Part::Say("\n"),
-            ],
-        )?;
+        say!(text; "  line ", exchange.line, ": ", nick(players, exchange.player), " exchanges ", (exchange.tiles, "tile"), "\n")?;
     }
     Ok(())
 }
@@ -62,9 +42,7 @@ fn push_no_deal(
     clash: Option<&[ClashLine]>,
     exchanges: &[ExchangeLine],
 ) -> Result<(), AllocError> {
-    text.extend_from_slice(
-        b"No deal of the tiles gives the players the racks that the lines up to this one show, though no single line shows too much.\n",
-    )?;
+    say!(text; "No deal of the tiles gives the players the racks that the lines up to this one show, though no single line shows too much.\n")?;
     if let Some(lines) = clash {
         push_clash(text, players, lines)?;
     }
@@ -78,12 +56,8 @@ pub fn push_deal_fact(
     fact: &DealFact,
 ) -> Result<(), AllocError> {
     match fact {
-        DealFact::DealtTo { line } => say_of_line(
-            text,
-            "Up to line ",
-            *line,
-            " a deal of the tiles gives the players every rack that is shown.\n",
-        ),
+        DealFact::DealtTo { line } =>
+            say!(text; "Up to line ", *line, " a deal of the tiles gives the players every rack that is shown.\n"),
         DealFact::NoDeal { clash, exchanges } => {
             let lines = clash.as_ref().map(|lines| lines.as_slice());
             push_no_deal(text, players, lines, exchanges.as_slice())

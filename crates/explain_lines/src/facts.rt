@@ -12,7 +12,7 @@ use crate::tiles::push_tile_fact;
 use crate::totals::push_total_fact;
 use crate::turns::push_turn_fact;
 use crate::wholes::push_game_fact;
-use explain_events::Explanation;
+use explain_answers::Explanation;
 use explain_facts::Fact;
 use gcg_read::Players;
 use std::alloc::AllocError;

@@ -2,7 +2,7 @@
 //!
 //! [`push_explanation`] writes the verdict line, the line as it is in the file, what is wrong with it, the words of a play with what each
 //! square adds, and the board before the line; [`push_reason`] writes only what is wrong, from a value that it is given. All of it is in the
-//! value that `explain_events` makes; here it is only put into words. That the sentences say it well is a matter of tests.
+//! value that `explain_answers` makes; here it is only put into words. That the sentences say it well is a matter of tests.
 #![tactic(auto)]
 
 mod boards;

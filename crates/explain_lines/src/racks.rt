@@ -2,43 +2,10 @@
 
 use crate::names::nick;
 use explain_facts::{KindLine, Leaving, RackFact, RackLine};
-use explain_parts::{Part, push_tiles, say, say_of_line};
+use explain_parts::say;
 use gcg_read::{Players, Seat};
 use ref_tiles::{Counts, Kind};
 use std::alloc::AllocError;
-
-/// Appends that a rack would have more tiles than its player has.
-fn push_too_big(
-    text: &mut Vec<u8>,
-    players: &Players,
-    player: Seat,
-    size: usize,
-    needed: &Counts,
-) -> Result<(), AllocError> {
-    say(
-        text,
-        &[
-            Part::Raw(nick(players, player)),
-            Part::Say(" has "),
-            Part::Things(size, "tile"),
-            Part::Say(" here, but by the lines below the rack would have to hold "),
-            Part::Many(needed.total()),
-            Part::Say(": "),
-        ],
-    )?;
-    push_tiles(text, needed)?;
-    text.extend_from_slice(b".\n")
-}
-
-/// Appends how many tiles of a kind there are, if there are too few.
-fn push_too_few(text: &mut Vec<u8>, kind: Kind, has: usize) -> Result<(), AllocError> {
-    if has == 0 {
-        text.extend_from_slice(b"no ")?;
-    } else {
-        say(text, &[Part::Say("only "), Part::Many(has), Part::Say(" ")])?;
-    }
-    say(text, &[Part::Kind(kind), Part::Say(".\n")])
-}
 
 /// Appends that a line shows a whole rack without tiles that are left on it.
 fn push_left_over(
@@ -49,28 +16,28 @@ fn push_left_over(
     kind: Kind,
     has: usize,
 ) -> Result<(), AllocError> {
-    say_of_line(text, "After line ", before, " ")?;
-    push_tiles(text, remaining)?;
-    say_of_line(text, " is left, but line ", after, " has ")?;
-    push_too_few(text, kind, has)
+    say!(text; "After line ", before, " ", remaining, " is left, but line ", after, " has ")?;
+    if has == 0 {
+        return say!(text; "no ", kind, ".\n");
+    }
+    say!(text; "only ", has, " ", kind, ".\n")
 }
 
 /// Appends which tiles leave the rack.
 fn push_leaving(text: &mut Vec<u8>, leaves: &Leaving) -> Result<(), AllocError> {
     match leaves {
         Leaving::Nothing => Ok(()),
-        Leaving::Plays(tiles) => say(text, &[Part::Say(" and plays "), Part::Tiles(tiles)]),
-        Leaving::Exchanges(tiles) => say(text, &[Part::Say(" and exchanges "), Part::Tiles(tiles)]),
+        Leaving::Plays(tiles) => say!(text; " and plays ", tiles),
+        Leaving::Exchanges(tiles) => say!(text; " and exchanges ", tiles),
     }
 }
 
 /// Appends what lines show of a player's rack, and what left it.
 fn push_rack_lines(text: &mut Vec<u8>, lines: &[RackLine]) -> Result<(), AllocError> {
     for line in lines {
-        say_of_line(text, "  line ", line.line, " shows ")?;
-        push_tiles(text, &line.shown)?;
+        say!(text; "  line ", line.line, " shows ", &line.shown)?;
         push_leaving(text, &line.leaves)?;
-        text.extend_from_slice(b"\n")?;
+        say!(text; "\n")?;
     }
     Ok(())
 }
@@ -92,62 +59,31 @@ fn push_short(
     kind: Kind,
     many: &Needed,
 ) -> Result<(), AllocError> {
-    say(
-        text,
-        &[
-            Part::Say("The game has "),
-            Part::Many(many.all),
-            Part::Say(" of the tile "),
-            Part::Kind(kind),
-            Part::Say(", but by what the lines up to this one show there would have to be "),
-            Part::Many(many.needed),
-            Part::Say(": "),
-            Part::Many(many.laid),
-            Part::Say(" on the board, "),
-            Part::Many(many.first),
-            Part::Say(" on "),
-            Part::Raw(nick(players, Seat::First)),
-            Part::Say("'s rack and "),
-            Part::Many(many.second),
-            Part::Say(" on "),
-            Part::Raw(nick(players, Seat::Second)),
-            Part::Say("'s.\n"),
-        ],
-    )
+    say!(text; "The game has ", many.all, " of the tile ", kind, ", but by what the lines up to this one show ")?;
+    say!(text; "there would have to be ", many.needed, ": ")?;
+    say!(text; many.laid, " on the board, ", many.first, " on ", nick(players, Seat::First), "'s rack and ")?;
+    say!(text; many.second, " on ", nick(players, Seat::Second), "'s.\n")
 }
 
-/// Appends how many tiles of a kind a line shows and plays.
-fn push_kind_line(
-    text: &mut Vec<u8>,
-    players: &Players,
-    line: &KindLine,
-) -> Result<(), AllocError> {
-    say_of_line(text, "  line ", line.line, " shows ")?;
-    say(
-        text,
-        &[
-            Part::Many(line.shown),
-            Part::Say(" on "),
-            Part::Raw(nick(players, line.player)),
-            Part::Say("'s rack"),
-        ],
-    )?;
-    if line.played > 0 {
-        say(text, &[Part::Say(" and plays "), Part::Many(line.played)])?;
-    }
-    text.extend_from_slice(b"\n")
-}
-
-/// Appends the lines that show a kind of tile.
+/// Appends the lines that show a kind of tile: how many each shows and plays.
 fn push_kind_lines(
     text: &mut Vec<u8>,
     players: &Players,
     lines: &[KindLine],
 ) -> Result<(), AllocError> {
     for line in lines {
-        push_kind_line(text, players, line)?;
+        say!(text; "  line ", line.line, " shows ", line.shown, " on ", nick(players, line.player), "'s rack")?;
+        if line.played > 0 {
+            say!(text; " and plays ", line.played)?;
+        }
+        say!(text; "\n")?;
     }
     Ok(())
+}
+
+/// Appends how many tiles a rack would have to hold, and which.
+fn push_needed(text: &mut Vec<u8>, total: usize, needed: &Counts) -> Result<(), AllocError> {
+    say!(text; "but by the lines below the rack would have to hold ", total, ": ", needed, ".\n")
 }
 
 /// Appends that a rack would have more tiles than its player has, with the lines that show them.
@@ -159,7 +95,8 @@ fn push_big_rack(
     needed: &Counts,
     lines: &[RackLine],
 ) -> Result<(), AllocError> {
-    push_too_big(text, players, player, size, needed)?;
+    say!(text; nick(players, player), " has ", (size, "tile"), " here, ")?;
+    push_needed(text, needed.total(), needed)?;
     push_rack_lines(text, lines)
 }
 

@@ -1,8 +1,9 @@
 //! A play with another tile in one place: tiles that are not on the rack, one tile that was read as another, and a blank as a letter.
 
 use crate::spelling::push_words;
-use explain_facts::{ReadingFact, Spelled};
-use explain_parts::{Part, say};
+use explain_facts::ReadingFact;
+use explain_parts::say;
+use game_turns::SpelledWord;
 use ref_board::Square;
 use ref_tiles::{Counts, Kind};
 use std::alloc::AllocError;
@@ -10,20 +11,9 @@ use std::alloc::AllocError;
 /// Appends the score that a play has, and the one that is written, if it is another one.
 fn push_scores(text: &mut Vec<u8>, score: i32, written: i32) -> Result<(), AllocError> {
     if score == written {
-        return say(
-            text,
-            &[Part::Points(score), Part::Say(", as is written.\n")],
-        );
+        return say!(text; score, ", as is written.\n");
     }
-    say(
-        text,
-        &[
-            Part::Points(score),
-            Part::Say(", but "),
-            Part::Points(written),
-            Part::Say(" is written.\n"),
-        ],
-    )
+    say!(text; score, ", but ", written, " is written.\n")
 }
 
 /// Appends that a play has the written score with a letter as a blank, or a blank as a letter.
@@ -34,45 +24,20 @@ fn push_as_blank(
     score: i32,
 ) -> Result<(), AllocError> {
     let what = if letter.is_ascii_lowercase() {
-        " as a letter and not a blank the play scores "
+        "a letter and not a blank"
     } else {
-        " as a blank the play scores "
+        "a blank"
     };
-    say(
-        text,
-        &[
-            Part::Say("With the "),
-            Part::Letter(letter.to_ascii_uppercase()),
-            Part::Say(" on "),
-            Part::At(square),
-            Part::Say(what),
-        ],
-    )?;
-    push_scores(text, score, score)
+    say!(text; "With the ", letter.to_ascii_uppercase(), " on ", square, " as ", what, " the play scores ", score, ", as is written.\n")
 }
 
 /// Appends how many tiles of a kind are played.
 fn push_played(text: &mut Vec<u8>, kind: Kind, played: usize) -> Result<(), AllocError> {
-    if played == 1 {
-        return match kind {
-            Kind::Blank => say(text, &[Part::Say("A blank is played")]),
-            Kind::Letter(_) => say(text, &[Part::Kind(kind), Part::Say(" is played")]),
-        };
-    }
     match kind {
-        Kind::Blank => say(
-            text,
-            &[Part::Things(played, "blank"), Part::Say(" are played")],
-        ),
-        Kind::Letter(_) => say(
-            text,
-            &[
-                Part::Things(played, "tile"),
-                Part::Say(" "),
-                Part::Kind(kind),
-                Part::Say(" are played"),
-            ],
-        ),
+        Kind::Blank if played == 1 => say!(text; "A blank is played"),
+        Kind::Blank => say!(text; (played, "blank"), " are played"),
+        Kind::Letter(_) if played == 1 => say!(text; kind, " is played"),
+        Kind::Letter(_) => say!(text; (played, "tile"), " ", kind, " are played"),
     }
 }
 
@@ -85,29 +50,18 @@ fn push_not_on_rack(
     rack: &Counts,
 ) -> Result<(), AllocError> {
     push_played(text, kind, played)?;
-    say(
-        text,
-        &[
-            Part::Say(", but the rack "),
-            Part::Tiles(rack),
-            Part::Say(" has "),
-        ],
-    )?;
     if has == 0 {
-        return say(text, &[Part::Say("none.\n")]);
+        return say!(text; ", but the rack ", rack, " has none.\n");
     }
-    say(
-        text,
-        &[Part::Say("only "), Part::Many(has), Part::Say(".\n")],
-    )
+    say!(text; ", but the rack ", rack, " has only ", has, ".\n")
 }
 
 /// Appends a tile by the letter that it shows, or that it is a blank.
 fn push_tile(text: &mut Vec<u8>, letter: u8, blank: &'static str) -> Result<(), AllocError> {
     if letter.is_ascii_lowercase() {
-        return say(text, &[Part::Say(blank)]);
+        return say!(text; blank);
     }
-    say(text, &[Part::Letter(letter)])
+    say!(text; letter)
 }
 
 /// Appends what a play is with another tile on a square.
@@ -116,22 +70,15 @@ fn push_misread(
     square: Square,
     letter: u8,
     read: u8,
-    words: &[Spelled],
+    words: &[SpelledWord],
 ) -> Result<(), AllocError> {
-    say(text, &[Part::Say("With ")])?;
+    say!(text; "With ")?;
     push_tile(text, read, "a blank")?;
-    say(text, &[Part::Say(" for ")])?;
+    say!(text; " for ")?;
     push_tile(text, letter, "the blank")?;
-    say(
-        text,
-        &[
-            Part::Say(" on "),
-            Part::At(square),
-            Part::Say(" the play makes "),
-        ],
-    )?;
+    say!(text; " on ", square, " the play makes ")?;
     push_words(text, words)?;
-    say(text, &[Part::Say(", and scores ")])
+    say!(text; ", and scores ")
 }
 
 /// Appends a fact about a play with another tile in one place.

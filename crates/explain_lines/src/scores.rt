@@ -3,23 +3,19 @@
 use crate::names::nick;
 use explain_clues::Spot;
 use explain_facts::ScoreFact;
-use explain_parts::{Part, push_tiles, say};
+use explain_parts::say;
 use gcg_read::{Players, Seat};
 use ref_tiles::Counts;
 use std::alloc::AllocError;
 
 /// Appends the right score and the written one.
-fn push_score(text: &mut Vec<u8>, front: &str, right: i32, written: i32) -> Result<(), AllocError> {
-    say(
-        text,
-        &[
-            Part::Say(front),
-            Part::Points(right),
-            Part::Say(", but "),
-            Part::Points(written),
-            Part::Say(" is written.\n"),
-        ],
-    )
+fn push_score(
+    text: &mut Vec<u8>,
+    front: &'static str,
+    right: i32,
+    written: i32,
+) -> Result<(), AllocError> {
+    say!(text; front, " ", right, ", but ", written, " is written.\n")
 }
 
 /// Appends what a last rack does to the points of its player.
@@ -35,8 +31,7 @@ fn push_last_rack(
     } else {
         " loses the points of the rack "
     };
-    say(text, &[Part::Raw(nick(players, player)), Part::Say(what)])?;
-    push_tiles(text, tiles)
+    say!(text; nick(players, player), what, tiles)
 }
 
 /// Appends where the same letters have the written score.
@@ -46,39 +41,15 @@ fn push_elsewhere(
     spots: &[Spot],
     others: usize,
 ) -> Result<(), AllocError> {
-    say(
-        text,
-        &[
-            Part::Say("The same letters score "),
-            Part::Points(written),
-            Part::Say(" at "),
-        ],
-    )?;
+    say!(text; "The same letters score ", written, " at ")?;
     let last = if others == 0 { spots.len() } else { 0 };
     for (k, spot) in spots.iter().enumerate() {
         push_spot(text, spot, k, last)?;
     }
     if others > 0 {
-        say(
-            text,
-            &[Part::Say(" and "), Part::Things(others, "other place")],
-        )?;
+        say!(text; " and ", (others, "other place"))?;
     }
-    text.extend_from_slice(b".\n")
-}
-
-/// Appends that the written total is right with a score.
-fn push_fitting(text: &mut Vec<u8>, score: i32, total: i32) -> Result<(), AllocError> {
-    say(
-        text,
-        &[
-            Part::Say("With "),
-            Part::Points(score),
-            Part::Say(" the total is "),
-            Part::Points(total),
-            Part::Say(", as is written.\n"),
-        ],
-    )
+    say!(text; ".\n")
 }
 
 /// Appends a spot, after what separates it from the one before. The spot with number `last`, counted from 1, is the last one.
@@ -90,7 +61,7 @@ fn push_spot(text: &mut Vec<u8>, spot: &Spot, k: usize, last: usize) -> Result<(
     } else {
         ", "
     };
-    say(text, &[Part::Say(front), Part::Spot(spot.at, spot.dir)])
+    say!(text; front, (spot.at, spot.dir))
 }
 
 /// Appends a fact about a score.
@@ -100,19 +71,15 @@ pub fn push_score_fact(
     fact: &ScoreFact,
 ) -> Result<(), AllocError> {
     match fact {
-        ScoreFact::Play { right, written } => {
-            push_score(text, "The play scores ", *right, *written)
-        }
-        ScoreFact::Pass { right, written } => push_score(text, "A pass scores ", *right, *written),
+        ScoreFact::Play { right, written } => push_score(text, "The play scores", *right, *written),
+        ScoreFact::Pass { right, written } => push_score(text, "A pass scores", *right, *written),
         ScoreFact::Exchange { right, written } => {
-            push_score(text, "An exchange scores ", *right, *written)
+            push_score(text, "An exchange scores", *right, *written)
         }
-        ScoreFact::Withdrawal { right, written } => push_score(
-            text,
-            "A withdrawal takes the points of the play off again: it scores ",
-            *right,
-            *written,
-        ),
+        ScoreFact::Withdrawal { right, written } => {
+            let front = "A withdrawal takes the points of the play off again: it scores";
+            push_score(text, front, *right, *written)
+        }
         ScoreFact::LastRack {
             player,
             is_doubled,
@@ -121,14 +88,15 @@ pub fn push_score_fact(
             written,
         } => {
             push_last_rack(text, players, *player, *is_doubled, tiles)?;
-            push_score(text, ": the score is ", *right, *written)
+            push_score(text, ": the score is", *right, *written)
         }
-        ScoreFact::Other { right, written } => push_score(text, "The score is ", *right, *written),
+        ScoreFact::Other { right, written } => push_score(text, "The score is", *right, *written),
         ScoreFact::Elsewhere {
             written,
             spots,
             others,
         } => push_elsewhere(text, *written, spots.as_slice(), *others),
-        ScoreFact::TotalFits { score, total } => push_fitting(text, *score, *total),
+        ScoreFact::TotalFits { score, total } =>
+            say!(text; "With ", *score, " the total is ", *total, ", as is written.\n"),
     }
 }

@@ -1,7 +1,7 @@
 //! Words and lines in a row.
 
-use explain_facts::Spelled;
-use explain_parts::{Part, say};
+use explain_parts::say;
+use game_turns::SpelledWord;
 use std::alloc::AllocError;
 
 /// What comes after an item, if `remaining` items come after it.
@@ -14,12 +14,11 @@ fn between(remaining: usize) -> &'static str {
 }
 
 /// Appends words, with a comma or an `and` between two.
-pub fn push_words(text: &mut Vec<u8>, words: &[Spelled]) -> Result<(), AllocError> {
+pub fn push_words(text: &mut Vec<u8>, words: &[SpelledWord]) -> Result<(), AllocError> {
     let mut remaining = words.len();
     for word in words {
-        text.extend_from_slice(word.letters.as_slice())?;
         remaining = remaining.saturating_sub(1);
-        say(text, &[Part::Say(between(remaining))])?;
+        say!(text; word.letters.as_slice(), between(remaining))?;
     }
     Ok(())
 }
@@ -29,7 +28,7 @@ pub fn push_lines(text: &mut Vec<u8>, lines: &[u32]) -> Result<(), AllocError> {
     let mut remaining = lines.len();
     for line in lines {
         remaining = remaining.saturating_sub(1);
-        say(text, &[Part::Line(*line), Part::Say(between(remaining))])?;
+        say!(text; *line, between(remaining))?;
     }
     Ok(())
 }

@@ -2,102 +2,15 @@
 
 use crate::names::nick;
 use explain_facts::TurnFact;
-use explain_parts::{Part, say};
-use gcg_read::{Players, Seat};
+use explain_parts::say;
+use gcg_read::Players;
 use std::alloc::AllocError;
-
-/// Appends on whose line a last rack has to be.
-fn push_others_line(
-    text: &mut Vec<u8>,
-    players: &Players,
-    player: Seat,
-    out: Seat,
-) -> Result<(), AllocError> {
-    say(
-        text,
-        &[
-            Part::Raw(nick(players, out)),
-            Part::Say(" is out, so "),
-            Part::Raw(nick(players, player)),
-            Part::Say("'s last rack has to be on a line of "),
-            Part::Raw(nick(players, out)),
-            Part::Say(", who gets the points.\n"),
-        ],
-    )
-}
-
-/// Appends whose turn it is.
-fn push_others_turn(
-    text: &mut Vec<u8>,
-    players: &Players,
-    player: Seat,
-    other: Seat,
-) -> Result<(), AllocError> {
-    say(
-        text,
-        &[
-            Part::Say("It is "),
-            Part::Raw(nick(players, other)),
-            Part::Say("'s turn, not "),
-            Part::Raw(nick(players, player)),
-            Part::Say("'s.\n"),
-        ],
-    )
-}
-
-/// Appends that a player is out, and whose rack is missing.
-fn push_out(
-    text: &mut Vec<u8>,
-    players: &Players,
-    out: Seat,
-    holder: Seat,
-) -> Result<(), AllocError> {
-    say(
-        text,
-        &[
-            Part::Raw(nick(players, out)),
-            Part::Say(" is out, so there are no more turns. What is missing is "),
-            Part::Raw(nick(players, holder)),
-            Part::Say("'s last rack, on a line of "),
-            Part::Raw(nick(players, out)),
-            Part::Say(".\n"),
-        ],
-    )
-}
-
-/// Appends that a player has lost the points of a rack, and whose rack is missing.
-fn push_rack_lost(
-    text: &mut Vec<u8>,
-    players: &Players,
-    player: Seat,
-    holder: Seat,
-) -> Result<(), AllocError> {
-    say(
-        text,
-        &[
-            Part::Raw(nick(players, player)),
-            Part::Say(
-                " has lost the points of a rack, so there are no more turns. What is missing is ",
-            ),
-            Part::Raw(nick(players, holder)),
-            Part::Say("'s last rack.\n"),
-        ],
-    )
-}
 
 /// Appends why no last rack is due.
 fn push_none_due(text: &mut Vec<u8>, limit: usize, turns: usize) -> Result<(), AllocError> {
-    say(
-        text,
-        &[
-            Part::Say("No last rack is due. No player is out, and a game ends after "),
-            Part::Many(limit),
-            Part::Say(" turns in a row without a play that stands; before this line there "),
-            Part::Say(if turns == 1 { "was " } else { "were " }),
-            Part::Many(turns),
-            Part::Say(".\n"),
-        ],
-    )
+    let were = if turns == 1 { "was" } else { "were" };
+    say!(text; "No last rack is due. No player is out, and a game ends after ", limit, " turns in a row without a play that stands; ")?;
+    say!(text; "before this line there ", were, " ", turns, ".\n")
 }
 
 /// Appends a fact about turns.
@@ -107,13 +20,24 @@ pub fn push_turn_fact(
     fact: &TurnFact,
 ) -> Result<(), AllocError> {
     match fact {
-        TurnFact::OthersTurn { player, other } => push_others_turn(text, players, *player, *other),
-        TurnFact::OthersLine { player, out } => push_others_line(text, players, *player, *out),
-        TurnFact::Complete => {
-            text.extend_from_slice(b"The game is complete: the last racks are in.\n")
+        TurnFact::OthersTurn { player, other } =>
+            say!(text; "It is ", nick(players, *other), "'s turn, not ", nick(players, *player), "'s.\n"),
+        TurnFact::OthersLine { player, out } => {
+            let out = nick(players, *out);
+            let player = nick(players, *player);
+            say!(text; out, " is out, so ", player, "'s last rack has to be on a line of ", out, ", who gets the points.\n")
         }
-        TurnFact::Out { out, holder } => push_out(text, players, *out, *holder),
-        TurnFact::RackLost { player, holder } => push_rack_lost(text, players, *player, *holder),
+        TurnFact::Complete => say!(text; "The game is complete: the last racks are in.\n"),
+        TurnFact::Out { out, holder } => {
+            let out = nick(players, *out);
+            let holder = nick(players, *holder);
+            say!(text; out, " is out, so there are no more turns. What is missing is ", holder, "'s last rack, on a line of ", out, ".\n")
+        }
+        TurnFact::RackLost { player, holder } => {
+            let player = nick(players, *player);
+            let holder = nick(players, *holder);
+            say!(text; player, " has lost the points of a rack, so there are no more turns. What is missing is ", holder, "'s last rack.\n")
+        }
         TurnFact::NoRackDue { limit, turns } => push_none_due(text, *limit, *turns),
     }
 }

@@ -3,32 +3,16 @@
 use crate::names::nick;
 use crate::spelling::{push_lines, push_words};
 use explain_facts::{GameFact, RackPart, UnlistedPlay};
-use explain_parts::{Part, say};
+use explain_parts::say;
 use gcg_read::Players;
 use std::alloc::AllocError;
 
 /// Appends a play that stands with words that are not in the list.
 fn push_play(text: &mut Vec<u8>, players: &Players, play: &UnlistedPlay) -> Result<(), AllocError> {
-    say(
-        text,
-        &[
-            Part::Say("Line "),
-            Part::Line(play.line),
-            Part::Say(": "),
-            Part::Raw(nick(players, play.player)),
-            Part::Say("'s play stands with "),
-        ],
-    )?;
-    push_words(text, play.words.as_slice())?;
     let are = if play.words.len() == 1 { "is" } else { "are" };
-    say(
-        text,
-        &[
-            Part::Say(", which "),
-            Part::Say(are),
-            Part::Say(" not in the word list.\n"),
-        ],
-    )
+    say!(text; "Line ", play.line, ": ", nick(players, play.player), "'s play stands with ")?;
+    push_words(text, play.words.as_slice())?;
+    say!(text; ", which ", are, " not in the word list.\n")
 }
 
 /// Appends the plays that stand with words that are not in the list, or that there are none.
@@ -38,9 +22,7 @@ fn push_plays(
     plays: &[UnlistedPlay],
 ) -> Result<(), AllocError> {
     if plays.is_empty() {
-        return text.extend_from_slice(
-            b"Each word of every play that stands is in the word list.\n",
-        );
+        return say!(text; "Each word of every play that stands is in the word list.\n");
     }
     for play in plays {
         push_play(text, players, play)?;
@@ -48,26 +30,10 @@ fn push_plays(
     Ok(())
 }
 
-/// Appends a rack that is shown in part.
-fn push_part(text: &mut Vec<u8>, part: &RackPart) -> Result<(), AllocError> {
-    say(
-        text,
-        &[
-            Part::Say("Line "),
-            Part::Line(part.line),
-            Part::Say(" shows "),
-            Part::Many(part.shown),
-            Part::Say(" of "),
-            Part::Things(part.has, "tile"),
-            Part::Say(".\n"),
-        ],
-    )
-}
-
 /// Appends the racks that are shown in part.
 fn push_parts(text: &mut Vec<u8>, parts: &[RackPart]) -> Result<(), AllocError> {
     for part in parts {
-        push_part(text, part)?;
+        say!(text; "Line ", part.line, " shows ", part.shown, " of ", (part.has, "tile"), ".\n")?;
     }
     Ok(())
 }
@@ -75,34 +41,23 @@ fn push_parts(text: &mut Vec<u8>, parts: &[RackPart]) -> Result<(), AllocError> 
 /// Appends that every turn shows its rack, or every turn except those with a part of it.
 fn push_shown(text: &mut Vec<u8>, parts: &[RackPart], turns: usize) -> Result<(), AllocError> {
     if parts.is_empty() {
-        return text.extend_from_slice(b"Every turn shows its rack.\n");
+        return say!(text; "Every turn shows its rack.\n");
     }
     if parts.len() == turns {
         return Ok(());
     }
-    text.extend_from_slice(b"Every other turn shows its rack.\n")
+    say!(text; "Every other turn shows its rack.\n")
 }
 
 /// Appends on which turns no rack is shown.
 fn push_hidden(text: &mut Vec<u8>, lines: &[u32], turns: usize) -> Result<(), AllocError> {
     if lines.len() == turns {
-        return text.extend_from_slice(b"No turn shows its rack.\n");
+        return say!(text; "No turn shows its rack.\n");
     }
-    let front = if lines.len() == 1 {
-        ": line "
-    } else {
-        ": lines "
-    };
-    say(
-        text,
-        &[
-            Part::Say("No rack is shown on "),
-            Part::Things(lines.len(), "turn"),
-            Part::Say(front),
-        ],
-    )?;
+    let named = if lines.len() == 1 { "line" } else { "lines" };
+    say!(text; "No rack is shown on ", (lines.len(), "turn"), ": ", named, " ")?;
     push_lines(text, lines)?;
-    text.extend_from_slice(b".\n")
+    say!(text; ".\n")
 }
 
 /// Appends on which turns no rack is shown, or only a part of it.
@@ -122,6 +77,12 @@ fn push_racks(
     push_hidden(text, lines, turns)
 }
 
+/// Appends that the rules allow every event, and that it was not found out whether a deal gives the racks.
+fn push_unsettled(text: &mut Vec<u8>) -> Result<(), AllocError> {
+    say!(text; "The rules allow every event. Neither a deal of the tiles that gives the players every rack that is shown was found, ")?;
+    say!(text; "nor a proof that there is none.\n")
+}
+
 /// Appends a fact about a record as a whole.
 pub fn push_game_fact(
     text: &mut Vec<u8>,
@@ -129,19 +90,12 @@ pub fn push_game_fact(
     fact: &GameFact,
 ) -> Result<(), AllocError> {
     match fact {
-        GameFact::NoEvent => {
-            text.extend_from_slice(b"The record has no event. Is it a game record?\n")
-        }
-        GameFact::Legal => text.extend_from_slice(
-            b"The rules allow every event, and a deal of the tiles gives the players every rack that is shown.\n",
-        ),
-        GameFact::Unsettled => text.extend_from_slice(
-            b"The rules allow every event. Neither a deal of the tiles that gives the players every rack that is shown was found, nor a proof that there is none.\n",
-        ),
+        GameFact::NoEvent => say!(text; "The record has no event. Is it a game record?\n"),
+        GameFact::Legal =>
+            say!(text; "The rules allow every event, and a deal of the tiles gives the players every rack that is shown.\n"),
+        GameFact::Unsettled => push_unsettled(text),
         GameFact::Unlisted { plays } => push_plays(text, players, plays.as_slice()),
-        GameFact::OtherList => {
-            text.extend_from_slice(b"Perhaps the game was played with another word list.\n")
-        }
+        GameFact::OtherList => say!(text; "Perhaps the game was played with another word list.\n"),
         GameFact::RacksHidden {
             lines,
             parts,

@@ -15,6 +15,8 @@ pub enum Part<'a> {
     Raw(&'a [u8]),
     /// A number of points.
     Points(i32),
+    /// A difference of points.
+    Difference(i64),
     /// How many there are of something.
     Many(usize),
     /// A number of things, with the word for one of them.
@@ -31,6 +33,94 @@ pub enum Part<'a> {
     Kind(Kind),
     /// Tiles, A to Z and then `?`.
     Tiles(&'a Counts),
+}
+
+impl<'a> From<&'a str> for Part<'a> {
+    fn from(words: &'a str) -> Part<'a> {
+        Part::Say(words)
+    }
+}
+
+impl<'a> From<&'a [u8]> for Part<'a> {
+    fn from(bytes: &'a [u8]) -> Part<'a> {
+        Part::Raw(bytes)
+    }
+}
+
+/// A number of points.
+impl<'a> From<i32> for Part<'a> {
+    fn from(points: i32) -> Part<'a> {
+        Part::Points(points)
+    }
+}
+
+/// A difference of points.
+impl<'a> From<i64> for Part<'a> {
+    fn from(points: i64) -> Part<'a> {
+        Part::Difference(points)
+    }
+}
+
+impl<'a> From<usize> for Part<'a> {
+    fn from(many: usize) -> Part<'a> {
+        Part::Many(many)
+    }
+}
+
+/// A number of things, with the word for one of them.
+impl<'a> From<(usize, &'a str)> for Part<'a> {
+    fn from(things: (usize, &'a str)) -> Part<'a> {
+        Part::Things(things.0, things.1)
+    }
+}
+
+/// The number of a line.
+impl<'a> From<u32> for Part<'a> {
+    fn from(line: u32) -> Part<'a> {
+        Part::Line(line)
+    }
+}
+
+impl<'a> From<Square> for Part<'a> {
+    fn from(square: Square) -> Part<'a> {
+        Part::At(square)
+    }
+}
+
+/// Where a play begins, and in which direction it goes.
+impl<'a> From<(Square, Dir)> for Part<'a> {
+    fn from(spot: (Square, Dir)) -> Part<'a> {
+        Part::Spot(spot.0, spot.1)
+    }
+}
+
+/// A letter as it is written.
+impl<'a> From<u8> for Part<'a> {
+    fn from(letter: u8) -> Part<'a> {
+        Part::Letter(letter)
+    }
+}
+
+impl<'a> From<Kind> for Part<'a> {
+    fn from(kind: Kind) -> Part<'a> {
+        Part::Kind(kind)
+    }
+}
+
+impl<'a> From<&'a Counts> for Part<'a> {
+    fn from(tiles: &'a Counts) -> Part<'a> {
+        Part::Tiles(tiles)
+    }
+}
+
+/// Appends a sentence to a text of bytes: `say!(text; nick, " had ", points, " on line ", line, ".\n")`. Each part is what its type says: words, bytes of
+/// the record, a number, a number of things with the word for one of them, a square, where a play begins, a letter, a kind of tile, or tiles. A name in a
+/// record need not be UTF-8, so no format text can have it.
+#[macro_export]
+macro_rules! say {
+    ($text:expr; $($part:expr),+ $(,)?) => {
+        $crate::say($text, &[$($crate::Part::from($part)),+])
+    };
 }
 
 /// Appends the parts of a sentence, one after the other.
@@ -57,6 +147,7 @@ fn push_part(text: &mut Vec<u8>, part: &Part<'_>) -> Result<(), AllocError> {
         Part::Say(words) => text.extend_from_slice(words.as_bytes()),
         Part::Raw(bytes) => text.extend_from_slice(bytes),
         Part::Points(points) => push_number(text, *points),
+        Part::Difference(points) => push_number(text, *points),
         Part::Many(many) => push_number(text, *many),
         Part::Things(many, one) => push_things(text, *many, one),
         Part::Line(line) => push_number(text, *line),
@@ -110,7 +201,7 @@ fn push_spot(text: &mut Vec<u8>, square: Square, dir: Dir) -> Result<(), AllocEr
 }
 
 /// Appends tiles, or that there are none.
-pub fn push_tiles(text: &mut Vec<u8>, tiles: &Counts) -> Result<(), AllocError> {
+fn push_tiles(text: &mut Vec<u8>, tiles: &Counts) -> Result<(), AllocError> {
     if tiles.total() == 0 {
         return text.extend_from_slice(b"no tile");
     }

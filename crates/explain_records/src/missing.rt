@@ -2,6 +2,7 @@
 
 use crate::fields::{after_colon, before_colon, count_fields, field_at};
 use explain_clues::line_of;
+use explain_parts::say;
 use gcg_read::{Points, ReadFault, Text, Why};
 use ref_tiles::row_of_digits;
 use std::alloc::AllocError;
@@ -25,7 +26,7 @@ pub fn push_missing(text: &mut Vec<u8>, bytes: &[u8], fault: ReadFault) -> Resul
 /// Appends that a line begins with more than one >, if the nickname of an event begins with one.
 fn push_marks(text: &mut Vec<u8>, nick: &[u8]) -> Result<(), AllocError> {
     if field_at(nick, 0).starts_with(b">") {
-        return text.extend_from_slice(b" The line begins with more than one >.");
+        return say!(text; " The line begins with more than one >.");
     }
     Ok(())
 }
@@ -37,9 +38,7 @@ fn push_after(text: &mut Vec<u8>, fields: &[u8]) -> Result<(), AllocError> {
     }
     for place in 1..4 {
         if is_number(fields, place) && is_number(fields, place + 1) {
-            return text.extend_from_slice(
-                b" What comes after the total belongs on a line of its own that begins with #note.",
-            );
+            return say!(text; " What comes after the total belongs on a line of its own that begins with #note.");
         }
     }
     Ok(())
@@ -51,7 +50,7 @@ fn push_commas(text: &mut Vec<u8>, fields: &[u8]) -> Result<(), AllocError> {
     let score = field_at(fields, many.saturating_sub(2));
     let total = field_at(fields, many.saturating_sub(1));
     if has_comma(score) || has_comma(total) {
-        return text.extend_from_slice(b" Numbers are written without commas and full stops.");
+        return say!(text; " Numbers are written without commas and full stops.");
     }
     Ok(())
 }
@@ -93,13 +92,11 @@ fn push_code(text: &mut Vec<u8>, fields: &[u8]) -> Result<(), AllocError> {
 /// Appends what is missing next to a code that is none, or how the code is written.
 fn push_no_code(text: &mut Vec<u8>, code: &[u8]) -> Result<(), AllocError> {
     if is_position(code) {
-        text.extend_from_slice(b" The word of the play is missing.")
+        say!(text; " The word of the play is missing.")
     } else if is_in_brackets(code) {
-        text.extend_from_slice(
-            b" The codes (time) and (challenge) are written in small letters, and a last rack in capitals.",
-        )
+        say!(text; " The codes (time) and (challenge) are written in small letters, and a last rack in capitals.")
     } else if Text::of_bytes(code).is_some() {
-        text.extend_from_slice(b" The position of the play is missing.")
+        say!(text; " The position of the play is missing.")
     } else {
         Ok(())
     }
@@ -110,20 +107,17 @@ fn push_nickname(text: &mut Vec<u8>, nick: &[u8]) -> Result<(), AllocError> {
     if count_fields(nick) < 2 {
         return Ok(());
     }
-    text.extend_from_slice(b" Write ")?;
+    say!(text; " Write ")?;
     let mut remaining = nick;
     for number in 0..nick.len() {
         let Some(field) = next_field(remaining) else {
             break;
         };
-        if number > 0 {
-            text.push(b'_')?;
-        }
-        text.extend_from_slice(field.bytes)?;
+        let front = if number == 0 { "" } else { "_" };
+        say!(text; front, field.bytes)?;
         remaining = field.after;
     }
-    text.push(b'.')?;
-    Ok(())
+    say!(text; ".")
 }
 
 /// Whether the field at a place, from 0, is a number.
@@ -138,15 +132,13 @@ fn push_numbers(text: &mut Vec<u8>, fields: &[u8]) -> Result<(), AllocError> {
         return Ok(());
     }
     if !is_number(fields, many - 1) {
-        return text.extend_from_slice(b" The score and the total are missing.");
+        return say!(text; " The score and the total are missing.");
     }
     if many == 1 || !is_number(fields, many - 2) {
-        return text.extend_from_slice(
-            b" The score or the total is missing: an event ends with both.",
-        );
+        return say!(text; " The score or the total is missing: an event ends with both.");
     }
     if many == 2 {
-        return text.extend_from_slice(b" The play or the code before the score is missing.");
+        return say!(text; " The play or the code before the score is missing.");
     }
     Ok(())
 }

@@ -2,7 +2,7 @@
 
 use crate::fields::{after_colon, before_colon, count_fields, field_at};
 use explain_clues::line_of;
-use explain_parts::{Part, say};
+use explain_parts::say;
 use gcg_read::{Points, Record, Why, read};
 use std::alloc::{AllocError, Global};
 use text_lines::{cut_line, next_field};
@@ -17,36 +17,20 @@ pub fn push_record_fault(
 ) -> Result<(), AllocError> {
     let written = line_of(bytes, line).unwrap_or(b"");
     match why {
-        Why::TooLong => text.extend_from_slice(
-            b"The file has more than 1,048,576 bytes, and no game record may be that long. Is it the wrong file?\n",
-        ),
-        Why::TooManyEvents => text.extend_from_slice(
-            b"This is event 1,001, and a record has 1,000 at most.\n",
-        ),
+        Why::TooLong =>
+            say!(text; "The file has more than 1,048,576 bytes, and no game record may be that long. Is it the wrong file?\n"),
+        Why::TooManyEvents => say!(text; "This is event 1,001, and a record has 1,000 at most.\n"),
         Why::NoColon => push_no_colon(text, written),
         Why::ThirdPlayer => push_third(alloc, text, front_of(bytes, line), written),
         Why::Fields => push_fields(text, written),
-        Why::Rack => push_no(
-            text,
-            rack_in(written),
-            " is not a rack: a rack is 1 to 7 tiles, each A to Z or ?.\n",
-        ),
-        Why::Position => push_no(
-            text,
-            position_in(written),
-            " is not a position: a position is a row from 1 to 15 and a column from A to O, in either order.\n",
-        ),
-        Why::Word => push_no(
-            text,
-            word_in(written),
-            " cannot be the word of a play: a word is 1 to 15 letters and dots.\n",
-        ),
+        Why::Rack =>
+            say!(text; rack_in(written), " is not a rack: a rack is 1 to 7 tiles, each A to Z or ?.\n"),
+        Why::Position =>
+            say!(text; position_in(written), " is not a position: a position is a row from 1 to 15 and a column from A to O, in either order.\n"),
+        Why::Word =>
+            say!(text; word_in(written), " cannot be the word of a play: a word is 1 to 15 letters and dots.\n"),
         Why::Number => push_no_number(text, written),
-        Why::Code => push_no(
-            text,
-            code_in(written),
-            " is not an event: an event is a play with its position, word, score and total, or one of the codes -, --, -TILES, -NUMBER, (challenge), (time) and (TILES).\n",
-        ),
+        Why::Code => push_no_event(text, code_in(written)),
         Why::NoMemory => Ok(()),
     }
 }
@@ -86,23 +70,20 @@ fn code_in(written: &[u8]) -> &[u8] {
     field_at(fields, count_fields(fields).saturating_sub(3))
 }
 
-/// Appends a field, and what it is not.
-fn push_no(text: &mut Vec<u8>, field: &[u8], what: &str) -> Result<(), AllocError> {
-    say(text, &[Part::Raw(field), Part::Say(what)])
+/// Appends that a field is not an event, and what an event is.
+fn push_no_event(text: &mut Vec<u8>, code: &[u8]) -> Result<(), AllocError> {
+    say!(text; code, " is not an event: an event is a play with its position, word, score and total, ")?;
+    say!(text; "or one of the codes -, --, -TILES, -NUMBER, (challenge), (time) and (TILES).\n")
 }
 
 /// Appends what is missing before the fields of an event.
 fn push_no_colon(text: &mut Vec<u8>, written: &[u8]) -> Result<(), AllocError> {
     let Some(head) = before_colon(written) else {
-        return text.extend_from_slice(
-            b"An event begins with >, a nickname and a colon, but this line has no colon.\n",
-        );
+        return say!(text; "An event begins with >, a nickname and a colon, but this line has no colon.\n");
     };
     match next_field(head) {
-        None => text.extend_from_slice(b"There is no nickname before the colon.\n"),
-        Some(_) => text.extend_from_slice(
-            b"There is a space or a tab inside the nickname before the colon.\n",
-        ),
+        None => say!(text; "There is no nickname before the colon.\n"),
+        Some(_) => say!(text; "There is a space or a tab inside the nickname before the colon.\n"),
     }
 }
 
@@ -114,9 +95,7 @@ fn push_third(
     written: &[u8],
 ) -> Result<(), AllocError> {
     let Some(head) = before_colon(written) else {
-        return text.extend_from_slice(
-            b"This line gives a player the nickname that the other player already has.\n",
-        );
+        return say!(text; "This line gives a player the nickname that the other player already has.\n");
     };
     let nick = field_at(head, 0);
     let Ok(record) = read(alloc, front) else {
@@ -127,35 +106,19 @@ fn push_third(
 
 /// Appends the nicknames of both players, next to a third one.
 fn push_nicks(text: &mut Vec<u8>, record: &Record, nick: &[u8]) -> Result<(), AllocError> {
-    text.extend_from_slice(nick)?;
-    say(
-        text,
-        &[
-            Part::Say(" is a third nickname: the players are "),
-            Part::Raw(record.players.first.nick.as_bytes()),
-            Part::Say(" and "),
-            Part::Raw(record.players.second.nick.as_bytes()),
-            Part::Say(".\n"),
-        ],
-    )
+    let first = record.players.first.nick.as_bytes();
+    let second = record.players.second.nick.as_bytes();
+    say!(text; nick, " is a third nickname: the players are ", first, " and ", second, ".\n")
 }
 
 /// Appends how many fields an event line has.
 fn push_fields(text: &mut Vec<u8>, written: &[u8]) -> Result<(), AllocError> {
     let many = count_fields(after_colon(written));
     if many > 5 {
-        return text.extend_from_slice(
-            b"There are more than 5 fields after the colon, but an event has 3 to 5.\n",
-        );
+        return say!(text; "There are more than 5 fields after the colon, but an event has 3 to 5.\n");
     }
-    say(
-        text,
-        &[
-            Part::Say(if many == 1 { "There is " } else { "There are " }),
-            Part::Things(many, "field"),
-            Part::Say(" after the colon, but an event has 3 to 5.\n"),
-        ],
-    )
+    let are = if many == 1 { "is" } else { "are" };
+    say!(text; "There ", are, " ", (many, "field"), " after the colon, but an event has 3 to 5.\n")
 }
 
 /// Appends which of score and total is not a number.
@@ -163,22 +126,9 @@ fn push_no_number(text: &mut Vec<u8>, written: &[u8]) -> Result<(), AllocError> 
     let fields = after_colon(written);
     let many = count_fields(fields);
     let score = field_at(fields, many.saturating_sub(2));
+    let total = field_at(fields, many.saturating_sub(1));
     if Points::of_bytes(score).is_none() {
-        return say(
-            text,
-            &[
-                Part::Say("The score "),
-                Part::Raw(score),
-                Part::Say(" is not a number of 1 to 6 digits, with or without a sign.\n"),
-            ],
-        );
+        return say!(text; "The score ", score, " is not a number of 1 to 6 digits, with or without a sign.\n");
     }
-    say(
-        text,
-        &[
-            Part::Say("The total "),
-            Part::Raw(field_at(fields, many.saturating_sub(1))),
-            Part::Say(" is not a number of 1 to 6 digits, with or without a sign.\n"),
-        ],
-    )
+    say!(text; "The total ", total, " is not a number of 1 to 6 digits, with or without a sign.\n")
 }

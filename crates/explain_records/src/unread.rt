@@ -3,9 +3,9 @@
 use crate::missing::push_missing;
 use crate::record_faults::push_record_fault;
 use explain_clues::line_of;
-use explain_parts::{Part, say, say_of_line};
+use explain_parts::say;
 use gcg_read::ReadFault;
-use gcg_unread::{UnreadLine, faulty_lines, unread_lines};
+use gcg_unread::{faulty_lines, unread_lines};
 use std::alloc::{AllocError, Global};
 use text_lines::{Lines, next_field, without_mark};
 
@@ -24,24 +24,7 @@ fn push_more(
         return Ok(());
     }
     let reported = if more == 1 { one } else { several };
-    say(
-        text,
-        &[Part::Things(more, "more line"), Part::Say(reported)],
-    )
-}
-
-/// Appends that a line is not read, and why.
-fn push_unread_line(text: &mut Vec<u8>, unread: UnreadLine) -> Result<(), AllocError> {
-    say(
-        text,
-        &[
-            Part::Say("Line "),
-            Part::Line(unread.line),
-            Part::Say(" is not read: "),
-            Part::Say(unread.why.sentence()),
-            Part::Say(".\n"),
-        ],
-    )
+    say!(text; (more, "more line"), reported)
 }
 
 /// Appends which lines of a text are not read although they look like events, a sentence for each of the first ones.
@@ -52,7 +35,7 @@ pub fn push_unread_lines(
 ) -> Result<(), AllocError> {
     let lines = unread_lines(alloc, bytes)?;
     for unread in lines.as_slice().iter().take(MOST_NAMED) {
-        push_unread_line(text, *unread)?;
+        say!(text; "Line ", unread.line, " is not read: ", unread.why.sentence(), ".\n")?;
     }
     push_more(text, lines.len(), " is not read.\n", " are not read.\n")
 }
@@ -81,12 +64,7 @@ pub fn push_time_racks(text: &mut Vec<u8>, bytes: &[u8]) -> Result<(), AllocErro
     for line in Lines::of(without_mark(bytes)) {
         number = number.saturating_add(1);
         if has_time_as_rack(line) {
-            say_of_line(
-                text,
-                "(TIME) on line ",
-                number,
-                " is a last rack with the tiles T, I, M and E: a penalty is written (time).\n",
-            )?;
+            say!(text; "(TIME) on line ", number, " is a last rack with the tiles T, I, M and E: a penalty is written (time).\n")?;
         }
     }
     Ok(())
@@ -103,8 +81,7 @@ pub fn push_fault_sentences(
     let mut missing = Vec::new(alloc);
     push_missing(&mut missing, bytes, fault)?;
     if let [b' ', sentence @ ..] = missing.as_slice() {
-        text.extend_from_slice(sentence)?;
-        text.push(b'\n')?;
+        say!(text; sentence, "\n")?;
     }
     Ok(())
 }
@@ -117,10 +94,7 @@ fn push_faulty_line(
     fault: ReadFault,
 ) -> Result<(), AllocError> {
     let written = line_of(bytes, fault.line).unwrap_or(b"");
-    let parts = [Part::Say("line "), Part::Line(fault.line), Part::Say(": ")];
-    say(text, &parts)?;
-    text.extend_from_slice(written)?;
-    text.push(b'\n')?;
+    say!(text; "line ", fault.line, ": ", written, "\n")?;
     push_fault_sentences(alloc, text, bytes, fault)
 }
 

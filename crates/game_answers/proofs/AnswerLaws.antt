@@ -18,7 +18,7 @@ use Rattle.game_bests.specs.Bests.{IsTurnBest}
 use Rattle.sheet_scores.specs.Gains.{given_at}
 use Rattle.game_answers.specs.Going.{HasTaken}
 use Rattle.game_answers.specs.Letters.{word_of}
-use Rattle.game_bests.specs.Unlisted.{letters_in, unlisted_of}
+use Rattle.game_turns.specs.Unlisted.{letters_in, unlisted_of}
 
 append_within : {X : Type 0} (xs : List X) (x y : X) (k : ℕ) → slice_get (xs ++ x ∷ []) k ≡ Some y → k < length xs → slice_get xs k ≡ Some y
 append_within [] x y k is within = absurd (omega arith)

@@ -16,7 +16,7 @@ use Rattle.game_answers.specs.Answers.{IsAnswerAt, AreAnswersTo}
 use Rattle.sheet_scores.specs.Gains.{given_at}
 use Rattle.game_bests.specs.Reportings.{best_reported}
 use Rattle.game_answers.specs.Reports.{line_of, lines_to}
-use Rattle.game_bests.specs.Unlisted.{letters_in}
+use Rattle.game_turns.specs.Unlisted.{letters_in}
 use Rattle.game_answers.specs.Reports.{unlisted_reported}
 use Rattle.game_bests.proofs.Reportings.{reports_best}
 use Rattle.game_answers.proofs.Reportings.{reports_unlisted}

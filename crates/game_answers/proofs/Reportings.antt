@@ -4,7 +4,7 @@ use Rattle.std.specs.List.{list_all, flat_map}
 use Rattle.std.proofs.lemmas.Bool.{and_parts}
 use Rattle.lex_list.specs.Words.{is_listed}
 use Rattle.game_report.specs.EventLines.{unlisted_word, unlisted_text}
-use Rattle.game_bests.specs.Unlisted.{unlisted_of}
+use Rattle.game_turns.specs.Unlisted.{unlisted_of}
 use Rattle.game_answers.specs.Reports.{unlisted_reported}
 
 one_reported : (list : List (List ℕ)) (word : List ℕ) (words : List (List ℕ)) (b : Bool) → is_listed list word ≡ b → flat_map (λ w. 32 ∷ w) (unlisted_of list words) ≡ flat_map (unlisted_word list) words

@@ -10,7 +10,7 @@ use Rattle.game_answers.specs.declared.answers.EventAnswer.{EventAnswer}
 use Rattle.game_bests.specs.Bests.{IsTurnBest}
 use Rattle.sheet_scores.specs.Gains.{given_at}
 use Rattle.game_answers.specs.Letters.{word_of}
-use Rattle.game_bests.specs.Unlisted.{letters_in, unlisted_of}
+use Rattle.game_turns.specs.Unlisted.{letters_in, unlisted_of}
 
 -- the tiles of a play, if there is one
 abbrev pub tiles_in : Option Play → Option (List Placed)

@@ -10,7 +10,7 @@ use Rattle.engine_stages.specs.declared.verdicts.Verdict.TheVariants as verdict
 use Rattle.engine_stages.specs.Reports.{legal_line, illegal_line, unsettled_line}
 use Rattle.game_answers.specs.declared.answers.EventAnswer.{EventAnswer}
 use Rattle.game_bests.specs.Reportings.{best_reported}
-use Rattle.game_bests.specs.Unlisted.{letters_in}
+use Rattle.game_turns.specs.Unlisted.{letters_in}
 
 -- the text of the words that are not in the list in a report: ' unlisted' and each after a space, or nothing if there are none
 abbrev pub unlisted_reported : List (List ℕ) → List ℕ

@@ -11,13 +11,13 @@ ghost use Rattle.sheet_scores.specs.Gains.{given_at};
 ghost use Rattle.game_answers.specs.Answers.{tiles_in, IsAnswerAt, AreAnswersTo};
 ghost use Rattle.game_answers.specs.Letters.{word_of};
 ghost use Rattle.game_bests.specs.Bests.{IsTurnBest};
-ghost use Rattle.game_bests.specs.Unlisted.{letters_in, unlisted_of};
+ghost use Rattle.game_turns.specs.Unlisted.{letters_in, unlisted_of};
 
 use crate::copies::copied;
 use crate::letters::word_of;
-use game_bests::{SpelledWord, TurnBest, unlisted_of};
+use game_bests::TurnBest;
 use game_known::{Beside, KnownBests};
-use game_turns::{Machine, Passed};
+use game_turns::{Machine, Passed, SpelledWord, unlisted_of};
 use gcg_read::Event;
 use lex_check::Checked;
 use lex_list::WordList;

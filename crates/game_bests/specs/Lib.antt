@@ -1,3 +1,2 @@
 pub mod Bests
 pub mod Reportings
-pub mod Unlisted

@@ -7,8 +7,6 @@
 
 mod bests;
 mod laws;
-mod unlisted;
 
 pub use bests::{BestPlay, TurnBest, best_of_turn};
 pub use laws::law_of_bests;
-pub use unlisted::{SpelledWord, unlisted_of};

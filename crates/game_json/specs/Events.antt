@@ -9,7 +9,7 @@ use Rattle.gcg_read.specs.Players.{player_of}
 use Rattle.ref_play.specs.declared.plays.Play.{Play}
 use Rattle.game_bests.specs.declared.bests.TurnBest.{TurnBest}
 use Rattle.game_bests.specs.declared.bests.TurnBest.TheVariants as best
-use Rattle.game_bests.specs.declared.unlisted.SpelledWord.{SpelledWord}
+use Rattle.game_turns.specs.declared.unlisted.SpelledWord.{SpelledWord}
 use Rattle.game_answers.specs.declared.answers.EventAnswer.{EventAnswer}
 use Rattle.json_base.specs.Kinds.{kind_direction, kind_number, kind_place, kind_symbols, kind_tiles}
 use Rattle.json_base.specs.Values.{given_text, rack_value}

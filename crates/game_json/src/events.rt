@@ -9,7 +9,8 @@ ghost use Rattle.game_json.specs.Events.{best_in, best_value, event_at, event_ob
 
 use crate::plays::{best_tree, placed_tree};
 use game_answers::EventAnswer;
-use game_bests::{SpelledWord, TurnBest};
+use game_bests::TurnBest;
+use game_turns::SpelledWord;
 use gcg_read::{Event, EventKind, Players};
 use json_base::{
     given_tree, item_at, kind_direction_tree, kind_name, kind_number_tree, kind_place_tree,

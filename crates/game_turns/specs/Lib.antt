@@ -9,3 +9,4 @@ pub mod LatestEvents
 pub mod Machines
 pub mod Laws
 pub mod Passing
+pub mod Unlisted

@@ -19,6 +19,7 @@ mod seats;
 mod sides;
 mod steps;
 mod turns;
+mod unlisted;
 
 pub use checks::legal_play;
 pub use faults::RuleFault;
@@ -29,3 +30,4 @@ pub use machine::Machine;
 pub use passed::Passed;
 pub use playing::{board_before, play_events, play_through};
 pub use turns::Turn;
+pub use unlisted::{SpelledWord, unlisted_of};

@@ -10,9 +10,9 @@ use Rattle.game_case.specs.declared.audits.Audit.{Audit}
 use Rattle.game_case.specs.declared.entries.Entry.{Entry}
 use Rattle.game_case.specs.declared.findings.Finding.{Finding}
 use Rattle.game_case.specs.Explaining.{case_line, IsCaseOf}
-use Rattle.explain_openings.specs.Openings.{place_of_fault}
+use Rattle.explain_answers.specs.Openings.{place_of_fault}
 use Rattle.explain_answers.specs.Explaining.{IsExplanation}
-use Rattle.gcg_names.specs.Encodings.{encoding_of}
+use Rattle.gcg_about.specs.Encodings.{encoding_of}
 use Rattle.gcg_about.specs.Words.{AreWordsOf}
 use Rattle.repair_answers.specs.declared.likely.Likely.{Likely}
 use Rattle.repair_answers.specs.Likely.{IsLikelyOfCase}

@@ -8,13 +8,10 @@ ghost use Rattle.page_answers.specs.Pages.{faulty_place, place_in_view, IsAuditS
 
 use crate::repaired::repaired_board;
 use crate::sheets::{PageSheet, page_sheet};
-use explain_answers::explain;
-use explain_events::Explanation;
-use explain_openings::place_of_fault;
+use explain_answers::{Explanation, explain, place_of_fault};
 use game_case::{Audit, Case, Entry, Finding, case_line};
 use game_walk::Walk;
-use gcg_about::{RecordWords, words_of};
-use gcg_names::Encoding;
+use gcg_about::{Encoding, RecordWords, words_of};
 use gcg_read::Event;
 use lex_check::Checked;
 use ref_tiles::Rules;

@@ -1,7 +1,8 @@
 //! A line of a sheet.
 
-use game_bests::{BestPlay, SpelledWord, TurnBest};
-use gcg_names::Encoding;
+use game_bests::{BestPlay, TurnBest};
+use game_turns::SpelledWord;
+use gcg_about::Encoding;
 use gcg_read::{Event, EventKind, Player};
 use sheet_scores::{LaidPlay, Picture, Position, SheetRow};
 

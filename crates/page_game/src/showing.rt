@@ -2,7 +2,7 @@
 
 use crate::lines::Line;
 use game_case::Finding;
-use gcg_names::Encoding;
+use gcg_about::Encoding;
 use gcg_read::{Event, Player, Record, Seat};
 use page_answers::{Maker, PageContents, PageSheet, PagedCase};
 use ref_tiles::Rules;

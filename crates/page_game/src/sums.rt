@@ -1,6 +1,6 @@
 //! The sum of a play: what each of its words scores.
 
-use explain_plays::{PlayedSquare, PlayedWord, ScoredPlay};
+use explain_clues::{PlayedSquare, PlayedWord, ScoredPlay};
 use game_board::tile_mark;
 use page_pieces::{PageText, Piece};
 use std::alloc::AllocError;

@@ -1,1 +1,10 @@
 pub mod Marks
+pub mod Safe
+pub mod Undone
+pub mod Escapes
+pub mod Folders
+pub mod Pages
+pub mod Paths
+pub mod Apart
+pub mod Inside
+pub mod Cuts

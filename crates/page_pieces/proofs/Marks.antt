@@ -3,8 +3,8 @@ use Rattle.std.proofs.Common.{◌≡◌, ℕ, Bool, true, false, not, List, [], 
 use Rattle.std.specs.Prelude.{if◌then◌else◌}
 use Rattle.std.specs.List.{flat_map, list_all}
 use Rattle.std.proofs.lemmas.Bool.{and_parts}
-use Rattle.page_escapes.specs.Laws.{is_mark}
-use Rattle.page_escapes.proofs.Safe.{safe}
+use Rattle.page_pieces.specs.Laws.{is_mark}
+use Rattle.page_pieces.proofs.Safe.{safe}
 use Rattle.page_pieces.specs.declared.pieces.Piece.{Piece}
 use Rattle.page_pieces.specs.declared.pieces.Piece.TheVariants as piece
 use Rattle.page_pieces.specs.Pieces.{written, text_of, shape, marks, marks_by, AreOfMarkup, DependOnShape}

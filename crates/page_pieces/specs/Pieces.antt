@@ -4,9 +4,9 @@ use Rattle.std.specs.Fmt.{signed_decimal}
 use Rattle.std.specs.List.{flat_map}
 use Rattle.std.specs.Str.Lossy.{utf8_lossy}
 use Rattle.gcg_write.specs.Fields.{play_text, tiles_text}
-use Rattle.page_escapes.specs.Laws.{is_mark}
-use Rattle.page_escapes.specs.Texts.{html_text}
-use Rattle.gcg_names.specs.Texts.{text_by}
+use Rattle.page_pieces.specs.Laws.{is_mark}
+use Rattle.page_pieces.specs.Escaping.{html_text}
+use Rattle.gcg_about.specs.Texts.{text_by}
 use Rattle.page_pieces.specs.declared.pieces.Piece.{Piece}
 use Rattle.page_pieces.specs.declared.pieces.Piece.TheVariants as piece
 use Rattle.page_pieces.specs.declared.texts.PageText.{PageText}

@@ -1,6 +1,6 @@
 //! A piece of a page.
 
-use gcg_names::Encoding;
+use gcg_about::Encoding;
 use ref_board::{Dir, Square};
 use ref_tiles::{Counts, Symbol};
 

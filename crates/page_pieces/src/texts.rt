@@ -1,12 +1,12 @@
 //! The text of a page.
 ghost use Rattle.std.specs.Prelude.{◌≡◌, ◌++◌, OnOk, [], take, length};
-ghost use Rattle.gcg_names.specs.Texts.{text_by};
+ghost use Rattle.gcg_about.specs.Texts.{text_by};
 ghost use Rattle.page_pieces.specs.Pieces.{shown, written, text_of};
 
+use crate::escaping::push_text;
 use crate::fillings::{count_text, counts_text, number_text, spot_text};
 use crate::pieces::Piece;
-use gcg_names::Encoding;
-use page_escapes::push_text;
+use gcg_about::Encoding;
 use std::alloc::{AllocError, Global};
 
 /// The text of a page, which grows only by pieces.

@@ -6,13 +6,12 @@ use cli_archive::{archive, index};
 use cli_args::{
     Asked, GameFiles, GameRequest, PROGRAM_NAME, PairFiles, Request, mistake, parse_arguments,
 };
-use cli_exits::{Exit, Trouble};
-use cli_files::{STANDARD_OUTPUT, write};
-use cli_overwrites::{input_under_pages, lost_input};
+use cli_files::{STANDARD_OUTPUT, Trouble, input_under_pages, lost_input, write};
 use cli_replies::{answer_game, board_in_json, board_of_draft, check_in_json, rule_on_words};
 use cli_reports::{board, build, check, convert, judge, tidy, top};
 use cli_serve::serve;
 use engine_stages::Verdict;
+use game_exits::Exit;
 use io_watch::Reason;
 use ref_tiles::ENGLISH_TEXT;
 use reply_requests::Task;

@@ -6,7 +6,7 @@ use Rattle.ref_tiles.specs.declared.rulebook.Rules.{Rules}
 use Rattle.gcg_read.specs.declared.events.Event.{Event}
 use Rattle.gcg_read.specs.declared.players.Players.{Players}
 use Rattle.gcg_read.specs.declared.records.Record.{Record}
-use Rattle.game_bests.specs.Unlisted.{letters_in}
+use Rattle.game_turns.specs.Unlisted.{letters_in}
 use Rattle.game_corrections.specs.declared.wrong_numbers.WrongNumber.{WrongNumber}
 use Rattle.game_corrections.specs.Auditing.{IsAudited}
 use Rattle.game_corrections.specs.Corrections.{IsCorrection, HavePoints}

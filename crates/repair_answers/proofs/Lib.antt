@@ -9,3 +9,6 @@ pub mod Wanted
 pub mod Answered
 pub mod LikelyOnes
 pub mod LinesFound
+pub mod DraftsWanted
+pub mod DraftsAnswered
+pub mod OnDraft

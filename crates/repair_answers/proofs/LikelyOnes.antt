@@ -24,14 +24,14 @@ use Rattle.repair_answers.specs.declared.sheet_repair.SheetRepair.{SheetRepair}
 use Rattle.repair_answers.specs.declared.likely.Likely.{Likely}
 
 pub likely_of : (rules : Rules) (list words : List (List ℕ)) (text : List ℕ) (written now then last : List Event) (numbers : Option NumbersAlone) (below : Option ℕ) (walk : Walk) (plays : List Change)
-    (found : Found) (singles : List Repair) (two : Pairs) (pairs : List Pair) (sheets : List SheetRepair) (likely : Option Likely) → words ≡ list → now ≡ written → then ≡ now → last ≡ then
+    (found : Found) (singles : List Repair) (two : Pairs) (pairs : List Pair) (sheets : List SheetRepair) (likely : Option Likely) → words ≡ list → now ≡ written → then ≡ written → last ≡ then
     → IsUnchanged rules words written numbers → below ≡ below_of numbers → IsWalkOf rules list written walk → ArePlayChanges now walk plays
     → AreReported rules list now numbers plays below found.from 4 found.reported.items found.remaining.items → singles ≡ found.reported.items → ArePairs rules words then singles 1 two → pairs ≡ two.reported.items
     → AreSheetRepairs rules words text last (sheet_room numbers) (slips_tried text last walk) sheets → IsLikelyOf numbers found.reported.items (all_known found.remaining.items found.from) pairs sheets likely
     → (count_walked rules written walk * length written ≤ 500000 → found.from ≡ 0) → IsLikely rules list text written likely
 likely_of rules list words text written now then last numbers below walk plays found singles two pairs sheets likely is_list same same_too kept alone by walked are_plays repairs are_singles are_pairs are_reported
     are_sheets chosen all =
-    let there : last ≡ written = kept ∙ same_too ∙ same in
+    let there : last ≡ written = kept ∙ same_too in
     record {
       numbers = numbers;
       alone = subst (λ (ws : List (List ℕ)). IsUnchanged rules ws written numbers) is_list alone;
@@ -47,7 +47,7 @@ likely_of rules list words text written now then last numbers below walk plays f
       all = all;
       two = two;
       pairs = subst (λ (ws : List (List ℕ)). ArePairs rules ws written found.reported.items 1 two) is_list
-          (subst (λ (es : List Event). ArePairs rules words es found.reported.items 1 two) (same_too ∙ same)
+          (subst (λ (es : List Event). ArePairs rules words es found.reported.items 1 two) same_too
           (subst (λ (ss : List Repair). ArePairs rules words then ss 1 two) are_singles are_pairs));
       sheets = sheets;
       are_sheets = subst (λ (ws : List (List ℕ)). AreSheetRepairs rules ws text written (sheet_room numbers) (slips_tried text written walk) sheets) is_list

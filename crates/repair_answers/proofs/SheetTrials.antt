@@ -3,7 +3,7 @@ use Rattle.std.proofs.Common.{◌≡◌, ℕ, ◌+◌, ◌<◌, ◌≤◌, List,
 use Rattle.std.proofs.lemmas.List.{length-map}
 use Rattle.ref_tiles.specs.declared.rulebook.Rules.{Rules}
 use Rattle.gcg_read.specs.declared.events.Event.{Event}
-use Rattle.game_bests.specs.declared.unlisted.SpelledWord.{SpelledWord}
+use Rattle.game_turns.specs.declared.unlisted.SpelledWord.{SpelledWord}
 use Rattle.game_corrections.specs.WrongNumbers.{wrong_lines}
 use Rattle.game_corrections.proofs.Fronts.{one_correction}
 use Rattle.repair_single.specs.Remaining.{unlisted_words}

@@ -7,7 +7,8 @@ use Rattle.game_walk.specs.declared.walking.Walk.{Walk}
 use Rattle.repair_plays.specs.PlayChanges.{ArePlayChanges}
 use Rattle.repair_changes.specs.declared.slips.Change.{Change}
 use Rattle.repair_single.specs.Costs.{Rank}
-use Rattle.repair_single.specs.Repairs.{AreFirstRepairs, AreAhead, IsReportedAt}
+use Rattle.repair_single.specs.Remaining.{Weighing, wrong_with}
+use Rattle.repair_single.specs.Repairs.{AreFirstBy, AreAhead, IsReportedAt}
 use Rattle.repair_single.specs.declared.listed.Listed.{Listed}
 use Rattle.repair_single.specs.declared.repair.Repair.{Repair}
 use Rattle.repair_pairs.specs.Pairs.{ArePairs}
@@ -18,7 +19,7 @@ use Rattle.repair_answers.specs.Answers.{below_of, RepairsIn}
 use Rattle.repair_answers.specs.Lines.{AreLines, before_numbers}
 use Rattle.repair_answers.specs.Sheets.{sheet_room, slips_tried, AreSheetRepairs}
 use Rattle.repair_answers.specs.Tried.{count_walked, count_untried, count_changes}
-use Rattle.repair_answers.specs.Trades.{is_reported, AreReported}
+use Rattle.repair_answers.specs.Trades.{is_reported, AreReported, AreReportedBy}
 use Rattle.repair_answers.specs.Unchanged.{IsUnchanged}
 use Rattle.repair_answers.specs.declared.numbers_alone.NumbersAlone.{NumbersAlone}
 use Rattle.repair_answers.specs.declared.answers.Faulty.{Faulty}
@@ -38,10 +39,10 @@ one_wanted most wanted reported remaining listed right by is short (inl among) =
 one_wanted most wanted reported remaining listed right by is short (inr (inl at)) = inr (inl at)
 one_wanted most wanted reported remaining listed right by is short (inr (inr ahead)) = inr (inr (ahead_wanted most wanted reported by is short ahead))
 
-all_wanted : (rules : Rules) (list : List (List ℕ)) (written : List Event) (plays : List Change) (below : Option ℕ) (from most wanted : ℕ) (reported : List Repair) (remaining : List Listed)
-    → wanted ≡ min (most * 27) (2 ^ 64 - 1) → length reported < 2 ^ 63 → AreFirstRepairs rules list written plays below from wanted reported remaining
-    → AreFirstRepairs rules list written plays below from (27 * most) reported remaining
-all_wanted rules list written plays below from most wanted reported remaining is short first =
+pub all_wanted : (weigh : Weighing) (rules : Rules) (list : List (List ℕ)) (written : List Event) (plays : List Change) (below : Option ℕ) (from most wanted : ℕ) (reported : List Repair) (remaining : List Listed)
+    → wanted ≡ min (most * 27) (2 ^ 64 - 1) → length reported < 2 ^ 63 → AreFirstBy weigh rules list written plays below from wanted reported remaining
+    → AreFirstBy weigh rules list written plays below from (27 * most) reported remaining
+all_wanted weigh rules list written plays below from most wanted reported remaining is short first =
     record {
       repairs = first.repairs;
       few = few_wanted (length reported) most wanted is first.few;
@@ -52,15 +53,15 @@ all_wanted rules list written plays below from most wanted reported remaining is
     }
 
 -- the repairs that are listed, as many as lines can have
-reported_wanted : (rules : Rules) (list : List (List ℕ)) (written : List Event) (alone : Option NumbersAlone) (plays : List Change) (below : Option ℕ) (from most wanted : ℕ) (reported : List Repair) (remaining : List Listed)
-    → wanted ≡ min (most * 27) (2 ^ 64 - 1) → AreReported rules list written alone plays below from wanted reported remaining → AreReported rules list written alone plays below from (27 * most) reported remaining
-reported_wanted rules list written alone plays below from most wanted reported remaining is are =
-    record { found = are.found; first = all_wanted rules list written plays below from most wanted are.found remaining is are.few are.first; few = are.few; kept = are.kept }
+reported_wanted : (weigh : Weighing) (rules : Rules) (list : List (List ℕ)) (written : List Event) (alone : Option NumbersAlone) (plays : List Change) (below : Option ℕ) (from most wanted : ℕ) (reported : List Repair) (remaining : List Listed)
+    → wanted ≡ min (most * 27) (2 ^ 64 - 1) → AreReportedBy weigh rules list written alone plays below from wanted reported remaining → AreReportedBy weigh rules list written alone plays below from (27 * most) reported remaining
+reported_wanted weigh rules list written alone plays below from most wanted reported remaining is are =
+    record { found = are.found; first = all_wanted weigh rules list written plays below from most wanted are.found remaining is are.few are.first; few = are.few; kept = are.kept }
 
 -- the repairs that are listed of those that were found
-pub reported_so : (rules : Rules) (list : List (List ℕ)) (written : List Event) (alone : Option NumbersAlone) (plays : List Change) (below : Option ℕ) (from most : ℕ) (found reported : List Repair) (remaining : List Listed)
-    → AreFirstRepairs rules list written plays below from most found remaining → length found < 2 ^ 63 → reported ≡ filter (is_reported alone) found → AreReported rules list written alone plays below from most reported remaining
-reported_so rules list written alone plays below from most found reported remaining first few is = record { found = found; first = first; few = few; kept = is }
+pub reported_so : (weigh : Weighing) (rules : Rules) (list : List (List ℕ)) (written : List Event) (alone : Option NumbersAlone) (plays : List Change) (below : Option ℕ) (from most : ℕ) (found reported : List Repair) (remaining : List Listed)
+    → AreFirstBy weigh rules list written plays below from most found remaining → length found < 2 ^ 63 → reported ≡ filter (is_reported alone) found → AreReportedBy weigh rules list written alone plays below from most reported remaining
+reported_so weigh rules list written alone plays below from most found reported remaining first few is = record { found = found; first = first; few = few; kept = is }
 
 pub pairs_wanted : (rules : Rules) (list : List (List ℕ)) (written : List Event) (singles : List Repair) (most wanted : ℕ) (pairs : Pairs) → wanted ≡ min (most * 27) (2 ^ 64 - 1)
     → ArePairs rules list written singles wanted pairs → ArePairs rules list written singles (27 * most) pairs
@@ -86,7 +87,7 @@ found_of rules list words text written between between_too seen walk most wanted
     record {
       alone = subst (λ (ws : List (List ℕ)). IsUnchanged rules ws written f.alone) by alone;
       plays = subst (λ (es : List Event). ArePlayChanges es walk f.plays.items) same plays;
-      repairs = reported_wanted rules list written f.alone f.plays.items (below_of f.alone) f.found.from most wanted f.found.reported.items f.found.remaining.items is here;
+      repairs = reported_wanted wrong_with rules list written f.alone f.plays.items (below_of f.alone) f.found.from most wanted f.found.reported.items f.found.remaining.items is here;
       lines = subst (λ (rs : List Repair). AreLines is_like rs most f.lines.items) reported lines;
       before = numbers ∙ ap (λ (rs : List Repair). before_numbers f.alone rs f.lines.items) reported;
       pairs = pairs_wanted rules list written f.found.reported.items most wanted f.pairs is both;

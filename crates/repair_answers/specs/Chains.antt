@@ -3,8 +3,8 @@ use Rattle.std.specs.Prelude.{◌≡◌, ◌⊎◌, ℕ, List, Option, None, Res
 use Rattle.ref_tiles.specs.declared.rulebook.Rules.{Rules}
 use Rattle.gcg_read.specs.declared.faults.ReadFault.{ReadFault}
 use Rattle.game_case.specs.declared.entries.Entry.{Entry}
-use Rattle.repair_chains.specs.Chains.{IsChain}
-use Rattle.repair_chains.specs.declared.chains.Chain.{Chain}
+use Rattle.repair_pairs.specs.Chains.{IsChain}
+use Rattle.repair_pairs.specs.declared.chains.Chain.{Chain}
 
 -- the chain that was found, or none
 abbrev pub IsChosen : (found reported : Option Chain) → Type 0

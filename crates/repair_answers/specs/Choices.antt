@@ -1,11 +1,12 @@
 -- Whether one repair is to be chosen, or the record with only its numbers corrected.
-use Rattle.std.specs.Prelude.{◌≡◌, ◌⊎◌, ⊤, ℕ, ◌+◌, ◌*◌, ◌<◌, ◌≤◌, ◌==◌, ◌&&◌, Bool, true, false, List, [], ◌∷◌, All, length, slice_get, Option, Some, None}
+use Rattle.std.specs.Prelude.{◌≡◌, ◌⊎◌, ⊤, ℕ, ◌+◌, ◌<◌, ◌≤◌, ◌==◌, ◌&&◌, Bool, true, false, List, [], ◌∷◌, All, length, slice_get, Option, Some, None}
 use Rattle.gcg_read.specs.declared.events.Event.{Event}
 use Rattle.repair_changes.specs.declared.slips.Slip.{Slip}
 use Rattle.repair_changes.specs.declared.slips.Slip.TheVariants as slip
 use Rattle.repair_changes.specs.declared.slips.TileSlip.{TileSlip}
 use Rattle.repair_changes.specs.declared.slips.TileSlip.TheVariants as tile
 use Rattle.repair_changes.specs.declared.slips.TilesOf.TheVariants as tiles_of
+use Rattle.repair_changes.specs.Weights.{remaining_cost}
 use Rattle.repair_single.specs.declared.listed.Listed.{Listed}
 use Rattle.repair_single.specs.declared.repair.Repair.{Repair}
 use Rattle.repair_pairs.specs.declared.found.Pair.{Pair}
@@ -59,7 +60,7 @@ HasRival first (pair ∷ rest) = pair.cost < cost_in first
 
 -- what it costs to correct only the numbers: 5 for each, and 3 for each word that is not in the list
 abbrev pub alone_cost : NumbersAlone → ℕ
-alone_cost alone = 5 * length alone.remains.wrong.items + 3 * length alone.remains.unlisted.items
+alone_cost alone = remaining_cost (length alone.remains.wrong.items) (length alone.remains.unlisted.items)
 
 -- A repair is ahead of correcting only the numbers. If more than numbers is wrong, there is nothing to be ahead of.
 abbrev pub IsAheadOfNumbers : Option NumbersAlone → Repair → Type 0

@@ -11,3 +11,4 @@ pub mod Answers
 pub mod Likely
 pub mod Amounts
 pub mod Given
+pub mod Drafts

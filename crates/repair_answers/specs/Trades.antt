@@ -6,7 +6,8 @@ use Rattle.repair_changes.specs.declared.slips.Change.{Change}
 use Rattle.repair_changes.specs.declared.slips.Slip.{Slip}
 use Rattle.repair_changes.specs.declared.slips.Slip.TheVariants as slip
 use Rattle.repair_changes.specs.declared.slips.SpellingSlip.TheVariants as spelling
-use Rattle.repair_single.specs.Repairs.{AreFirstRepairs}
+use Rattle.repair_single.specs.Remaining.{Weighing, wrong_with}
+use Rattle.repair_single.specs.Repairs.{AreFirstBy}
 use Rattle.repair_single.specs.declared.listed.Listed.{Listed}
 use Rattle.repair_single.specs.declared.repair.Repair.{Repair}
 use Rattle.repair_answers.specs.declared.numbers_alone.NumbersAlone.{NumbersAlone}
@@ -29,9 +30,13 @@ abbrev pub is_reported : Option NumbersAlone → Repair → Bool
 is_reported None repair = true
 is_reported (Some alone) repair = not (avoids_word alone repair)
 
--- The first repairs of a record, no more than memory holds, but for those.
-pub record AreReported (rules : Rules) (list : List (List ℕ)) (written : List Event) (alone : Option NumbersAlone) (plays : List Change) (below : Option ℕ) (from most : ℕ) (reported : List Repair) (remaining : List Listed) : Type 0 where
+-- The first repairs of a sheet, no more than memory holds, but for those.
+pub record AreReportedBy (weigh : Weighing) (rules : Rules) (list : List (List ℕ)) (written : List Event) (alone : Option NumbersAlone) (plays : List Change) (below : Option ℕ) (from most : ℕ) (reported : List Repair) (remaining : List Listed) : Type 0 where
   pub found : List Repair
-  pub first : AreFirstRepairs rules list written plays below from most found remaining
+  pub first : AreFirstBy weigh rules list written plays below from most found remaining
   pub few : length found < 2 ^ 63
   pub kept : reported ≡ filter (is_reported alone) found
+
+-- those of a record, of which all numbers count
+abbrev pub AreReported : Rules → (list : List (List ℕ)) → (written : List Event) → (alone : Option NumbersAlone) → (plays : List Change) → (below : Option ℕ) → (from most : ℕ) → (reported : List Repair) → (remaining : List Listed) → Type 0
+AreReported rules list written alone plays below from most reported remaining = AreReportedBy wrong_with rules list written alone plays below from most reported remaining

@@ -3,7 +3,7 @@ use Rattle.std.specs.Prelude.{◌≡◌, ℕ, Bool, true, false, List, filter, m
 use Rattle.ref_tiles.specs.declared.rulebook.Rules.{Rules}
 use Rattle.gcg_read.specs.declared.events.Event.{Event}
 use Rattle.gcg_read.specs.declared.records.Record.{Record}
-use Rattle.game_bests.specs.Unlisted.{letters_in}
+use Rattle.game_turns.specs.Unlisted.{letters_in}
 use Rattle.game_walk.specs.declared.rows.Row.{Row}
 use Rattle.game_walk.specs.Numbers.{numbers_in}
 use Rattle.game_corrections.specs.declared.wrong_numbers.WrongNumber.{WrongNumber}

@@ -73,17 +73,8 @@ pub fn amount_repair(
     let alone = unchanged(alloc, rules, list, game)?;
     let below = below_of(&alone);
     let walk = walk_as_written(alloc, rules, list, &mut game.events)?;
-    let limit = limit_within(alloc, rules, list, &walk, game.events.as_slice(), STEPS)?;
-    let singles = first_repairs(
-        alloc,
-        rules,
-        pair,
-        &walk,
-        &mut game.events,
-        &alone,
-        below,
-        1,
-        limit,
-    )?;
+    let events = game.events.as_slice();
+    let limit = limit_within(alloc, rules, list, &walk, events, STEPS)?;
+    let singles = first_repairs(alloc, rules, pair, &walk, events, &alone, below, 1, limit)?;
     Ok(amount_among(&alone, singles.found))
 }

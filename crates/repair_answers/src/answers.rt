@@ -21,14 +21,10 @@ use game_walk::Walk;
 use gcg_read::Record;
 use lex_check::Checked;
 use ref_tiles::Rules;
-use repair_chains::Chain;
-use repair_changes::Change;
-use repair_pairs::{Pairs, pairs};
+use repair_changes::{Change, MOST_ALIKE};
+use repair_pairs::{Chain, Pairs, pairs};
 use repair_single::Found;
 use std::alloc::{AllocError, Global};
-
-/// How many repairs one line may have: one more than there are letters.
-const MOST_ALIKE: usize = 27;
 
 /// How many steps each search for the second of two changes may take: about as many as the events that it goes over.
 const PAIR_STEPS: u64 = 1_000_000;
@@ -74,7 +70,7 @@ pub struct RepairAnswer {
 }
 
 /// Fewer numbers and words than this may stay wrong with a repair; `None` if any number may.
-pub fn below_of(alone: &Option<NumbersAlone>) -> Option<usize>
+pub(crate) fn below_of(alone: &Option<NumbersAlone>) -> Option<usize>
     ensures { result ≡ below_of alone.now }
 {
     match alone {
@@ -101,17 +97,10 @@ fn faulty_of(
     let alone = unchanged(alloc, rules, list, game)?;
     let below = below_of(&alone);
     let wanted = most.saturating_mul(MOST_ALIKE);
-    let limit = search_limit(alloc, rules, list, walk, game.events.as_slice())?;
+    let written = game.events.as_slice();
+    let limit = search_limit(alloc, rules, list, walk, written)?;
     let singles = first_repairs(
-        alloc,
-        rules,
-        pair,
-        walk,
-        &mut game.events,
-        &alone,
-        below,
-        wanted,
-        limit,
+        alloc, rules, pair, walk, written, &alone, below, wanted, limit,
     )?;
     let reported = singles.found.reported.as_slice();
     let lines = lines_of(alloc, reported, most)?;
@@ -147,7 +136,7 @@ fn faulty_of(
 }
 
 /// Whether a record is illegal.
-fn is_illegal(finding: &Finding) -> bool
+pub(crate) fn is_illegal(finding: &Finding) -> bool
     ensures { result ≡ is_illegal finding.now }
 {
     match finding {

@@ -5,12 +5,12 @@ ghost use Rattle.repair_answers.specs.Chains.{IsChosen, IsChainOf};
 
 use crate::answers::Faulty;
 use crate::choices::cost_of;
-use crate::numbers_alone::NUMBER;
 use game_case::Entry;
 use gcg_read::ReadFault;
 use lex_check::Checked;
 use ref_tiles::Rules;
-use repair_chains::{Chain, find_chain};
+use repair_changes::NUMBER;
+use repair_pairs::{Chain, find_chain};
 use std::alloc::{AllocError, Global};
 
 /// The smaller of two costs, of which there may be none.

@@ -5,10 +5,10 @@ ghost use Rattle.repair_answers.specs.Choices.{says_less, leaves_out_tile, says_
 
 use crate::alike::same_tile;
 use crate::answers::Faulty;
-use crate::numbers_alone::{NUMBER, NumbersAlone};
+use crate::numbers_alone::NumbersAlone;
 use crate::sheet_choices::with_sheets;
 use crate::sheet_repair::SheetRepair;
-use repair_changes::{Slip, TileSlip, TilesOf};
+use repair_changes::{NUMBER, Slip, TileSlip, TilesOf};
 use repair_pairs::Pair;
 use repair_single::{Found, Repair};
 

@@ -31,7 +31,7 @@ fn no_pairs(alloc: Global) -> Pairs
 /// most `most` lines, and how many changes were tried. No pairs of changes and no slips of the whole sheet are looked for.
 ///
 /// It fails only if memory runs out.
-pub fn faulty_with(
+pub(crate) fn faulty_with(
     alloc: Global,
     rules: &Rules,
     list: &WordList,

@@ -116,17 +116,10 @@ fn likely_repair(
     let list = pair.list();
     let alone = unchanged(alloc, rules, list, game)?;
     let below = below_of(&alone);
-    let limit = limit_within(alloc, rules, list, walk, game.events.as_slice(), STEPS)?;
+    let events = game.events.as_slice();
+    let limit = limit_within(alloc, rules, list, walk, events, STEPS)?;
     let singles = first_repairs(
-        alloc,
-        rules,
-        pair,
-        walk,
-        &mut game.events,
-        &alone,
-        below,
-        WANTED,
-        limit,
+        alloc, rules, pair, walk, events, &alone, below, WANTED, limit,
     )?;
     let two = pairs(
         alloc,

@@ -95,7 +95,7 @@ pub(crate) fn limit_within(
 /// How many steps the search for the repairs of a record may take.
 ///
 /// It fails only if memory runs out.
-pub fn search_limit(
+pub(crate) fn search_limit(
     alloc: Global,
     rules: &Rules,
     list: &WordList,

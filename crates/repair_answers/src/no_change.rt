@@ -1,6 +1,6 @@
 //! A record with no change except to its numbers.
 ghost use Rattle.std.specs.Prelude.{◌≡◌, ◌++◌, filter, IfOk, OnOk};
-ghost use Rattle.game_bests.specs.Unlisted.{letters_in};
+ghost use Rattle.game_turns.specs.Unlisted.{letters_in};
 ghost use Rattle.game_turns.specs.Passing.{rules_in, record_in, list_in};
 ghost use Rattle.game_turns.specs.Places.{AreAllowed};
 ghost use Rattle.game_walk.specs.Walks.{GoesThrough};
@@ -9,10 +9,9 @@ ghost use Rattle.repair_answers.specs.Unchanged.{IsFound, IsUnchanged, AreRemain
 
 use crate::numbers_alone::NumbersAlone;
 use deal_cuts::law_of_fronts;
-use game_bests::{SpelledWord, unlisted_of};
 use game_corrections::{WrongNumber, law_of_points};
 use game_deal::{RackFinding, law_of_bounds, settle_racks};
-use game_turns::Passed;
+use game_turns::{Passed, SpelledWord, unlisted_of};
 use game_walk::{Audited, Row, Walk, audit, numbers_of, renumber};
 use gcg_read::Record;
 use lex_list::WordList;
@@ -136,7 +135,7 @@ fn with_right_numbers(
 /// if more is wrong. Afterwards the record is as it was.
 ///
 /// It fails only if memory runs out.
-pub fn unchanged(
+pub(crate) fn unchanged(
     alloc: Global,
     rules: &Rules,
     list: &WordList,

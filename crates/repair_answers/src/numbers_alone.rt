@@ -3,13 +3,8 @@ ghost use Rattle.std.specs.Prelude.{◌≡◌};
 ghost use Rattle.repair_answers.specs.Choices.{alone_cost};
 
 use game_walk::Numbers;
+use repair_changes::remaining_cost;
 use repair_single::Remains;
-
-/// What a wrong number costs.
-pub(crate) const NUMBER: u128 = 5;
-
-/// What a word costs that is not in the list.
-const WORD: u128 = 3;
 
 /// What is wrong with a record of which only the numbers are.
 #[derive(Drop)]
@@ -27,6 +22,6 @@ impl NumbersAlone {
     pub(crate) fn cost(&self) -> u128
         ensures { result ≡ alone_cost self.now }
     {
-        NUMBER * self.remains.wrong.len() as u128 + WORD * self.remains.unlisted.len() as u128
+        remaining_cost(self.remains.wrong.len(), self.remains.unlisted.len())
     }
 }

@@ -3,11 +3,8 @@ ghost use Rattle.std.specs.Prelude.{◌≡◌, filter};
 ghost use Rattle.repair_answers.specs.Trades.{is_trade, rights_none, avoids_word, is_reported};
 
 use crate::numbers_alone::NumbersAlone;
-use repair_changes::{Slip, SpellingSlip};
+use repair_changes::{Slip, SpellingSlip, WORDS_OF_SLIPS};
 use repair_single::Repair;
-
-/// How many words that are not in the list may come from slips: if there are more, the game was perhaps played with another list.
-pub const WORDS_OF_SLIPS: usize = 3;
 
 /// Whether two letters of a word are in each other's place.
 fn is_trade(slip: &Slip) -> bool

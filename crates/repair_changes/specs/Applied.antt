@@ -220,6 +220,14 @@ right_events slip.SwappedOver there = reverse there
 right_events (slip.Missing m) there = missing_event m ∷ []
 right_events s there = map (right_event s) there
 
+-- how many these are
+abbrev pub lines_there : Slip → ℕ
+lines_there slip.Repeated = 0
+lines_there slip.ExtraPass = 0
+lines_there slip.Extra = 0
+lines_there (slip.Missing m) = 1
+lines_there other = wrong_events other
+
 -- The events of a record after a change. Those before and after it stay as they are.
 abbrev pub applied : Change → List Event → List Event
 applied change events = spliced change.place (wrong_events change.slip) (right_events change.slip) events

@@ -1,5 +1,5 @@
--- The weight of a slip: a smaller one is likelier.
-use Rattle.std.specs.Prelude.{ℕ, Bool, true, false}
+-- What a change costs: what stays wrong with it, and the weight of its slip. What costs less is likelier.
+use Rattle.std.specs.Prelude.{ℕ, ◌+◌, ◌*◌, Bool, true, false}
 use Rattle.repair_changes.specs.declared.slips.Slip.{Slip}
 use Rattle.repair_changes.specs.declared.slips.Slip.TheVariants as slip
 use Rattle.repair_changes.specs.declared.slips.PositionSlip.{PositionSlip}
@@ -12,6 +12,12 @@ use Rattle.repair_changes.specs.declared.slips.TileSlip.{TileSlip}
 use Rattle.repair_changes.specs.declared.slips.TileSlip.TheVariants as tile
 use Rattle.repair_changes.specs.declared.slips.MissingLine.{MissingLine}
 use Rattle.repair_changes.specs.declared.slips.MissingLine.TheVariants as line
+
+-- A wrong number costs 5, and a word that is not in the list 3.
+abbrev pub remaining_cost : (wrong unlisted : ℕ) → ℕ
+remaining_cost wrong unlisted = 5 * wrong + 3 * unlisted
+
+-- ---- the weight of a slip
 
 abbrev pub position_weight : PositionSlip → ℕ
 position_weight position.OtherDirection = 2

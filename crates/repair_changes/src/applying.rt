@@ -1,9 +1,8 @@
 //! Applying a change to a record.
 ghost use Rattle.std.specs.Prelude.{◌≡◌, ◌+◌, ◌≤◌, ◌++◌, ◌∷◌, [], pos, map, reverse, take, drop, length, IfOk};
-ghost use Rattle.repair_changes.specs.Applied.{right_event, missing_player, missing_kind, missing_score, missing_event, wrong_events, right_events, applied};
+ghost use Rattle.repair_changes.specs.Applied.{right_event, missing_player, missing_kind, missing_score, missing_event, wrong_events, lines_there, right_events, applied};
 
-use crate::copying::{copy_event, play_kind, push_copies};
-use crate::righting::right_event;
+use crate::righting::{play_kind, right_event};
 use crate::slips::{Change, MissingLine, Slip};
 use gcg_read::{Event, EventKind, Events, Points, Seat};
 use std::alloc::{AllocError, Global};
@@ -83,6 +82,17 @@ pub fn wrong_events(slip: &Slip) -> usize
     }
 }
 
+/// How many lines come in the place of those that a slip concerns.
+pub fn lines_there(slip: &Slip) -> usize
+    ensures { result ≡ lines_there slip.now }
+{
+    match slip {
+        Slip::Repeated | Slip::ExtraPass | Slip::Extra => 0,
+        Slip::Missing(_) => 1,
+        _ => wrong_events(slip),
+    }
+}
+
 /// The list of one event.
 fn only(alloc: Global, event: Event) -> Result<Events, AllocError>
     ensures { IfOk result (λ events. events ≡ event ∷ []) }
@@ -98,7 +108,7 @@ fn reversed(alloc: Global, there: &[Event]) -> Result<Events, AllocError>
 {
     let mut events = Events::new(alloc);
     for following in 0..there.len() {
-        events.push(copy_event(&there[there.len() - 1 - following]))?;
+        events.push(there[there.len() - 1 - following].copy())?;
     }
     Ok(events)
 }
@@ -133,7 +143,7 @@ fn copies(alloc: Global, events: &[Event]) -> Result<Events, AllocError>
     ensures { IfOk result (λ same. same ≡ events.now) }
 {
     let mut same = Events::new(alloc);
-    push_copies(&mut same, events)?;
+    same.push_copies(events)?;
     Ok(same)
 }
 
@@ -149,9 +159,9 @@ fn joined(
     ensures { IfOk result (λ joined. joined ≡ take place events.now ++ right.now ++ drop (place + many) events.now) }
 {
     let mut all = Events::new(alloc);
-    push_copies(&mut all, &events[..place])?;
-    push_copies(&mut all, right)?;
-    push_copies(&mut all, &events[place + many..])?;
+    all.push_copies(&events[..place])?;
+    all.push_copies(right)?;
+    all.push_copies(&events[place + many..])?;
     Ok(all)
 }
 

@@ -5,7 +5,7 @@ ghost use Rattle.repair_changes.specs.Numbers.{leaves_out, numbers_with, numbers
 use crate::slips::Slip;
 
 /// Whether a line that should not be there is left out.
-fn leaves_out(slip: &Slip) -> bool
+pub fn leaves_out(slip: &Slip) -> bool
     ensures { result ≡ leaves_out slip.now }
 {
     match slip {

@@ -3,10 +3,10 @@ ghost use Rattle.std.specs.Prelude.{◌≡◌};
 ghost use Rattle.std.specs.Option.{option_map};
 ghost use Rattle.ref_board.specs.Cells.{mirrored};
 ghost use Rattle.ref_tiles.specs.declared.symbols.Symbol.TheVariants as symbol;
+ghost use Rattle.gcg_read.specs.declared.events.EventKind.TheVariants as kind_of;
 ghost use Rattle.repair_changes.specs.declared.slips.SpellingSlip.TheVariants as spelling;
 ghost use Rattle.repair_changes.specs.Applied.{right_square, right_dir, right_tiles, code_kind, right_position, right_spelling, right_play, right_lot, misread_on_rack, right_misread, right_kind, right_rack, right_player, right_amount, right_event};
 
-use crate::copying::{copy_kind, copy_text, play_kind};
 use crate::counting::{one_less, one_more};
 use crate::slips::{
     CodeSlip, Misread, PositionSlip, RightPlay, Slip, SpellingSlip, TileSlip, TilesOf,
@@ -75,9 +75,9 @@ fn right_position(slip: &PositionSlip, kind: &EventKind) -> EventKind
         EventKind::Play { at, dir, word } => EventKind::Play {
             at: right_square(slip, *at),
             dir: right_dir(slip, *dir),
-            word: copy_text(word),
+            word: word.copy(),
         },
-        _ => copy_kind(kind),
+        _ => kind.copy(),
     }
 }
 
@@ -91,7 +91,18 @@ fn right_spelling(slip: &SpellingSlip, kind: &EventKind) -> EventKind
             dir: *dir,
             word: right_word(slip, word),
         },
-        _ => copy_kind(kind),
+        _ => kind.copy(),
+    }
+}
+
+/// The kind of an event that is this play.
+pub(crate) fn play_kind(play: &RightPlay) -> EventKind
+    ensures { result ≡ kind_of.Play play.now.at play.now.dir play.now.word }
+{
+    EventKind::Play {
+        at: play.at,
+        dir: play.dir,
+        word: play.word.copy(),
     }
 }
 
@@ -101,7 +112,7 @@ fn right_play(right: &RightPlay, kind: &EventKind) -> EventKind
 {
     match kind {
         EventKind::Play { .. } => play_kind(right),
-        _ => copy_kind(kind),
+        _ => kind.copy(),
     }
 }
 
@@ -116,7 +127,7 @@ fn right_lot(of: TilesOf, slip: &TileSlip, kind: &EventKind) -> EventKind
         (TilesOf::LastRack, EventKind::LastRack(tiles)) => {
             EventKind::LastRack(right_tiles(slip, tiles))
         }
-        _ => copy_kind(kind),
+        _ => kind.copy(),
     }
 }
 
@@ -167,7 +178,7 @@ fn right_kind(slip: &Slip, kind: &EventKind) -> EventKind
         Slip::Number(number) => EventKind::ExchangeUnknown(*number),
         Slip::Code(slip) => code_kind(slip),
         Slip::Rest(tiles) => EventKind::LastRack(*tiles),
-        _ => copy_kind(kind),
+        _ => kind.copy(),
     }
 }
 

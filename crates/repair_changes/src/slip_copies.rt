@@ -1,7 +1,6 @@
 //! Copies of slips.
 ghost use Rattle.std.specs.Prelude.{◌≡◌};
 
-use crate::copying::copy_text;
 use crate::slips::{MissingLine, PositionSlip, RightPlay, Slip, SpellingSlip};
 
 /// A copy of a play.
@@ -11,7 +10,7 @@ fn copy_play(play: &RightPlay) -> RightPlay
     RightPlay {
         at: play.at,
         dir: play.dir,
-        word: copy_text(&play.word),
+        word: play.word.copy(),
     }
 }
 
@@ -52,7 +51,7 @@ fn copy_spelling(slip: &SpellingSlip) -> SpellingSlip
             right: *right,
         },
         SpellingSlip::Twisted { place } => SpellingSlip::Twisted { place: *place },
-        SpellingSlip::Laid(text) => SpellingSlip::Laid(copy_text(text)),
+        SpellingSlip::Laid(text) => SpellingSlip::Laid(text.copy()),
     }
 }
 

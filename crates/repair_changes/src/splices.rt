@@ -3,7 +3,6 @@ ghost use Rattle.std.specs.Prelude.{◌≡◌, ◌+◌, ◌≤◌, ◌++◌, len
 ghost use Rattle.repair_changes.specs.Splices.{spliced};
 ghost use Rattle.repair_changes.specs.Applied.{wrong_place, wrong_symbols, right_symbols, text_or, right_word};
 
-use crate::copying::copy_text;
 use crate::slips::SpellingSlip;
 use arrayvec::ArrayVec;
 use gcg_read::Text;
@@ -126,7 +125,7 @@ fn text_or(right: &[Symbol], word: &Text) -> Text
 {
     match Text::new(right) {
         Some(text) => text,
-        None => copy_text(word),
+        None => word.copy(),
     }
 }
 
@@ -139,7 +138,7 @@ fn respelled(slip: &SpellingSlip, word: &Text) -> Text
     let many = wrong_symbols(slip);
     let all = word.as_slice();
     if place > all.len() || many > all.len() - place {
-        return copy_text(word);
+        return word.copy();
     }
     let right = right_symbols(slip, &all[place..place + many]);
     text_or(&spliced(all, place, many, &right), word)
@@ -150,7 +149,7 @@ pub(crate) fn right_word(slip: &SpellingSlip, word: &Text) -> Text
     ensures { result ≡ right_word slip.now word.now }
 {
     match slip {
-        SpellingSlip::Laid(laid) => copy_text(laid),
+        SpellingSlip::Laid(laid) => laid.copy(),
         _ => respelled(slip, word),
     }
 }

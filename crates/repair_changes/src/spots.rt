@@ -67,33 +67,3 @@ pub fn spot_of(events: &[Event], change: &Change) -> Spot
         _ => on_line(events, line),
     }
 }
-
-/// The line of the first event at a place or after it that is on the sheet.
-fn line_from(made: &[Event], place: usize) -> Option<u32> {
-    for at in place..made.len() {
-        if made[at].line != 0 {
-            return Some(made[at].line);
-        }
-    }
-    None
-}
-
-/// The line of the last event that is on the sheet, or 0 if there is none.
-fn last_from(made: &[Event]) -> u32 {
-    let mut last = 0;
-    for event in made {
-        if event.line != 0 {
-            last = event.line;
-        }
-    }
-    last
-}
-
-/// Where a second change is in the file, by the record that the first one makes. A line that the first one added is not in the file.
-pub fn second_spot(made: &[Event], change: &Change) -> Spot {
-    match (&change.slip, line_from(made, change.place)) {
-        (_, None) => Spot::After(last_from(made)),
-        (Slip::Missing(_), Some(line)) => Spot::Before(line),
-        (_, Some(line)) => Spot::On(line),
-    }
-}

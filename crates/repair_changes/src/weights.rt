@@ -1,8 +1,27 @@
-//! The weight of a slip.
+//! What a change costs: what stays wrong with it, and the weight of its slip.
 ghost use Rattle.std.specs.Prelude.{◌≡◌};
-ghost use Rattle.repair_changes.specs.Weights.{position_weight, spelling_weight, other_weight, number_weight, tile_weight, early_weight, several_weight, missing_weight, weight_of};
+ghost use Rattle.repair_changes.specs.Weights.{position_weight, spelling_weight, other_weight, number_weight, tile_weight, early_weight, several_weight, missing_weight, weight_of, remaining_cost};
 
 use crate::slips::{MissingLine, PositionSlip, Slip, SpellingSlip, TileSlip, TilesOf};
+
+/// What a wrong number costs.
+pub const NUMBER: u128 = 5;
+
+/// What a word costs that is not in the list.
+pub const WORD: u128 = 3;
+
+/// How many repairs one line may have: one more than there are letters.
+pub const MOST_ALIKE: usize = 27;
+
+/// How many words that are not in the list may come from slips: if there are more, they are phonies, or the game was played with another list.
+pub const WORDS_OF_SLIPS: usize = 3;
+
+/// What so many wrong numbers and so many words that are not in the list cost.
+pub fn remaining_cost(wrong: usize, unlisted: usize) -> u128
+    ensures { result ≡ remaining_cost wrong unlisted }
+{
+    NUMBER * wrong as u128 + WORD * unlisted as u128
+}
 
 fn position_weight(slip: &PositionSlip) -> usize
     ensures { result ≡ position_weight slip.now }

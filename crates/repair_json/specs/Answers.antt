@@ -8,9 +8,9 @@ use Rattle.engine_stages.specs.declared.verdicts.Verdict.{Verdict}
 use Rattle.gcg_read.specs.declared.events.Event.{Event}
 use Rattle.gcg_read.specs.declared.records.Record.{Record}
 use Rattle.gcg_drafts.specs.declared.missing.Missing.{Missing}
-use Rattle.draft_changes.specs.Counting.{count_written}
+use Rattle.draft_numbers.specs.Counting.{count_written}
 use Rattle.repair_single.specs.declared.repair.Repair.{Repair}
-use Rattle.repair_chains.specs.declared.chains.Chain.{Chain}
+use Rattle.repair_pairs.specs.declared.chains.Chain.{Chain}
 use Rattle.repair_pairs.specs.declared.found.Pair.{Pair}
 use Rattle.repair_pairs.specs.declared.found.Pairs.{Pairs}
 use Rattle.repair_answers.specs.declared.answers.Faulty.{Faulty}

@@ -7,9 +7,9 @@ use Rattle.gcg_read.specs.declared.players.Players.{Players}
 use Rattle.gcg_read.specs.declared.records.Record.{Record}
 use Rattle.repair_changes.specs.Spots.{spot_of}
 use Rattle.repair_single.specs.declared.repair.Repair.{Repair}
-use Rattle.repair_chains.specs.Spots.{later_spot}
-use Rattle.repair_chains.specs.Totals.{chain_cost, chain_numbers, chain_weight}
-use Rattle.repair_chains.specs.declared.chains.Chain.{Chain}
+use Rattle.repair_pairs.specs.Spots.{later_spot}
+use Rattle.repair_pairs.specs.Totals.{chain_cost, chain_numbers, chain_weight}
+use Rattle.repair_pairs.specs.declared.chains.Chain.{Chain}
 use Rattle.repair_pairs.specs.declared.found.Head.{Head}
 use Rattle.repair_json.specs.Changes.{change_object}
 use Rattle.repair_json.specs.Evidence.{evidence_object}

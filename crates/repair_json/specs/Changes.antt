@@ -8,13 +8,11 @@ use Rattle.gcg_read.specs.declared.events.Event.{Event}
 use Rattle.gcg_read.specs.declared.players.Players.{Players}
 use Rattle.gcg_write.specs.Normal.{event_line}
 use Rattle.gcg_drafts.specs.declared.missing.Missing.{Missing}
-use Rattle.draft_changes.specs.Counting.{numbers_to_go_by}
+use Rattle.draft_numbers.specs.Counting.{numbers_to_go_by}
 use Rattle.repair_changes.specs.declared.slips.Change.{Change}
-use Rattle.repair_changes.specs.declared.slips.Slip.{Slip}
-use Rattle.repair_changes.specs.declared.slips.Slip.TheVariants as slip
 use Rattle.repair_changes.specs.declared.spots.Spot.{Spot}
 use Rattle.repair_changes.specs.declared.spots.Spot.TheVariants as spot
-use Rattle.repair_changes.specs.Applied.{wrong_events}
+use Rattle.repair_changes.specs.Applied.{lines_there, wrong_events}
 use Rattle.repair_changes.specs.Spots.{spot_of}
 use Rattle.repair_changes.specs.Weights.{weight_of}
 use Rattle.repair_single.specs.declared.repair.Repair.{Repair}
@@ -52,20 +50,12 @@ event_value players event = text (event_line players event)
 abbrev pub events_value : Players → List Event → Json
 events_value players events = array_of (map (event_value players) events)
 
--- how many events come in the place of those that a slip concerns
-abbrev pub right_number : Slip → ℕ
-right_number slip.Repeated = 0
-right_number slip.ExtraPass = 0
-right_number slip.Extra = 0
-right_number (slip.Missing line) = 1
-right_number other = wrong_events other
-
 -- the events that a change replaces, and what comes in their place
 abbrev pub replaced : List Event → Change → List Event
 replaced events change = part_of events change.place (wrong_events change.slip)
 
 abbrev pub coming : (right : List Event) → Change → List Event
-coming right change = part_of right change.place (right_number change.slip)
+coming right change = part_of right change.place (lines_there change.slip)
 
 -- one of several changes: where it is, what is wrong there, the lines that it replaces, and what comes in their place
 abbrev pub change_fields : Players → (events : List Event) → Change → Spot → (right : List Event) → List Field

@@ -3,7 +3,7 @@ use Rattle.std.specs.Prelude.{ℕ, ℤ, ◌-◌, List, [], ◌∷◌, codes, len
 use Rattle.std.specs.List.{filter_map}
 use Rattle.json.specs.Json.{Json, string}
 use Rattle.json_trees.specs.Values.{Field, array_of, count, integer, object_of, text}
-use Rattle.game_bests.specs.declared.unlisted.SpelledWord.{SpelledWord}
+use Rattle.game_turns.specs.declared.unlisted.SpelledWord.{SpelledWord}
 use Rattle.game_corrections.specs.declared.wrong_numbers.WrongNumber.{WrongNumber}
 use Rattle.game_corrections.specs.declared.wrong_numbers.WrongNumber.TheVariants as wrong
 use Rattle.game_corrections.specs.WrongNumbers.{due}

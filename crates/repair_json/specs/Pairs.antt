@@ -9,7 +9,7 @@ use Rattle.gcg_read.specs.declared.records.Record.{Record}
 use Rattle.repair_changes.specs.Numbers.{numbers_with_both}
 use Rattle.repair_changes.specs.Spots.{spot_of}
 use Rattle.repair_changes.specs.Weights.{weight_of}
-use Rattle.repair_chains.specs.Spots.{later_spot}
+use Rattle.repair_pairs.specs.Spots.{later_spot}
 use Rattle.repair_pairs.specs.declared.found.Head.{Head}
 use Rattle.repair_pairs.specs.declared.found.Pair.{Pair}
 use Rattle.repair_json.specs.Changes.{change_object, put_by}

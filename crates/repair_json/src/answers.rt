@@ -10,7 +10,7 @@ use crate::changes::repair_tree;
 use crate::evidence::evidence_tree;
 use crate::pairs::pair_tree;
 use crate::sheets::sheet_tree;
-use draft_changes::count_written;
+use draft_numbers::count_written;
 use engine_stages::Verdict;
 use gcg_drafts::Missing;
 use gcg_read::{Event, Players, Record};
@@ -21,8 +21,7 @@ use json_trees::{
     with_field_if,
 };
 use repair_answers::{Faulty, NumbersAlone, RepairAnswer, Reported, SheetRepair};
-use repair_chains::Chain;
-use repair_pairs::{Pair, Pairs};
+use repair_pairs::{Chain, Pair, Pairs};
 use repair_single::Repair;
 use std::alloc::{AllocError, Global};
 

@@ -3,7 +3,7 @@ ghost use Rattle.std.specs.Prelude.{◌≡◌, ◌++◌, IfOk, OnOk, map};
 ghost use Rattle.json_trees.specs.Trees.{view};
 ghost use Rattle.json_trees.specs.Values.{array_of};
 ghost use Rattle.repair_changes.specs.Spots.{spot_of};
-ghost use Rattle.repair_chains.specs.Spots.{later_spot};
+ghost use Rattle.repair_pairs.specs.Spots.{later_spot};
 ghost use Rattle.repair_json.specs.Changes.{change_object};
 ghost use Rattle.repair_json.specs.Chains.{all_changes, chain_object, chain_value, later_changes};
 
@@ -11,9 +11,8 @@ use crate::changes::change_tree;
 use crate::evidence::evidence_tree;
 use gcg_read::{Event, Players, Record};
 use json_trees::{Tree, array, null_tree, object, wide_tree};
-use repair_chains::{Chain, later_spot};
 use repair_changes::{Change, spot_of};
-use repair_pairs::Head;
+use repair_pairs::{Chain, Head, later_spot};
 use repair_single::Repair;
 use std::alloc::{AllocError, Global};
 

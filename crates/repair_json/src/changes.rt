@@ -3,11 +3,11 @@ ghost use Rattle.std.specs.Prelude.{◌≡◌, IfOk, drop, map, option_map, take
 ghost use Rattle.std.specs.List.{filter_map};
 ghost use Rattle.json_trees.specs.Trees.{view};
 ghost use Rattle.json_trees.specs.Values.{array_of};
-ghost use Rattle.repair_json.specs.Changes.{at_word, change_object, coming, event_value, events_value, line_in, lines_value, part_of, put_at, put_by, repair_object, replaced, right_number, single_object};
+ghost use Rattle.repair_json.specs.Changes.{at_word, change_object, coming, event_value, events_value, line_in, lines_value, part_of, put_at, put_by, repair_object, replaced, single_object};
 
 use crate::evidence::evidence_tree;
 use crate::slip_names::slip_name;
-use draft_changes::numbers_to_go_by;
+use draft_numbers::numbers_to_go_by;
 use gcg_drafts::Missing;
 use gcg_read::{Event, Players, Record};
 use gcg_write::line_text;
@@ -15,7 +15,7 @@ use json_base::item_at;
 use json_trees::{
     Tree, array, count_tree, name_tree, object, push_if, size_tree, text_tree, wide_tree,
 };
-use repair_changes::{Change, Slip, Spot, spot_of, weight_of, wrong_events};
+use repair_changes::{Change, Spot, lines_there, spot_of, weight_of, wrong_events};
 use repair_single::Repair;
 use std::alloc::{AllocError, Global};
 
@@ -65,17 +65,6 @@ fn part_of(events: &[Event], place: usize, number: usize) -> &[Event]
     first_events(events_from(events, place), number)
 }
 
-/// How many events come in the place of those that a slip concerns.
-fn right_number(slip: &Slip) -> usize
-    ensures { result ≡ right_number slip.now }
-{
-    match slip {
-        Slip::Repeated | Slip::ExtraPass | Slip::Extra => 0,
-        Slip::Missing(_) => 1,
-        _ => wrong_events(slip),
-    }
-}
-
 /// The events that a change replaces.
 fn replaced<'a>(events: &'a [Event], change: &Change) -> &'a [Event]
     ensures { result.now ≡ replaced events.now change.now }
@@ -87,7 +76,7 @@ fn replaced<'a>(events: &'a [Event], change: &Change) -> &'a [Event]
 fn coming<'a>(right: &'a [Event], change: &Change) -> &'a [Event]
     ensures { result.now ≡ coming right.now change.now }
 {
-    part_of(right, change.place, right_number(&change.slip))
+    part_of(right, change.place, lines_there(&change.slip))
 }
 
 /// The lines of events.

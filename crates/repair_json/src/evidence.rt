@@ -4,8 +4,8 @@ ghost use Rattle.json_trees.specs.Trees.{view};
 ghost use Rattle.json_trees.specs.Values.{array_of};
 ghost use Rattle.repair_json.specs.Evidence.{evidence_object, word_value, wrong_object, wrong_on, wrong_value};
 
-use game_bests::SpelledWord;
 use game_corrections::{WrongNumber, due};
+use game_turns::SpelledWord;
 use json_trees::{
     Tree, array, count_tree, integer_tree, name_tree, object, push_if, text_tree, wide_tree,
 };

@@ -10,9 +10,8 @@ use crate::evidence::evidence_tree;
 use gcg_read::{Players, Record};
 use json_base::item_at;
 use json_trees::{Tree, array, object, push_if, wide_tree};
-use repair_chains::later_spot;
 use repair_changes::{numbers_with_both, spot_of, weight_of};
-use repair_pairs::{Head, Pair};
+use repair_pairs::{Head, Pair, later_spot};
 use std::alloc::{AllocError, Global};
 
 /// The first change, by the events of the record.

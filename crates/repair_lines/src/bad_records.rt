@@ -1,9 +1,9 @@
 //! What repairs a text that is not a record.
 
+use crate::sheet_slips::{push_sheet_slip, push_slip_difference};
 use crate::sheets::push_sheet_end;
 use explain_parts::{Part, say};
 use repair_answers::{LineRepairs, SameCost, SheetRepair};
-use repair_words::{push_sheet_slip, push_slip_difference};
 use std::alloc::AllocError;
 
 /// How many of the others that cost the same are named.

@@ -1,9 +1,10 @@
 //! Several changes that repair a record, one after the other.
 
+use crate::changes::{push_change, push_change_at};
+use crate::evidence::push_evidence;
 use explain_parts::{Part, say};
 use gcg_read::{Event, Record};
-use repair_chains::{Chain, later_spot};
-use repair_words::{push_change, push_change_at, push_evidence};
+use repair_pairs::{Chain, later_spot};
 use std::alloc::AllocError;
 
 /// The events after a step; none if there is no such step.

@@ -1,10 +1,28 @@
-//! The likely repair of a record in words.
+//! The likely repair of a record in words, and a bonus or a penalty that would explain its numbers.
 
+use crate::changes::push_change_of;
+use crate::evidence::{push_evidence, push_share};
+use crate::sheet_slips::push_sheet_slip;
 use crate::sheets::push_sheet_evidence;
 use gcg_read::Record;
 use repair_answers::{Likely, SheetRepair};
-use repair_words::{push_change_of, push_numbers, push_share, push_sheet_slip};
+use repair_changes::numbers_with;
+use repair_single::Repair;
 use std::alloc::AllocError;
+
+/// Appends a repair after these words, and its evidence.
+fn push_suggested(
+    text: &mut Vec<u8>,
+    record: &Record,
+    words: &[u8],
+    repair: &Repair,
+) -> Result<(), AllocError> {
+    text.extend_from_slice(words)?;
+    push_change_of(text, record, repair)?;
+    text.extend_from_slice(b"\n")?;
+    let numbers = numbers_with(&repair.listed.change.slip, record.events.len());
+    push_evidence(text, &repair.remains, numbers)
+}
 
 /// Appends a likely slip of the whole sheet, on a line that begins with `Likely: `, and its evidence.
 fn push_likely_sheet(
@@ -27,8 +45,23 @@ pub fn push_likely(
     likely: Option<&Likely>,
 ) -> Result<(), AllocError> {
     match likely {
-        Some(Likely::Change(repair)) => repair_words::push_likely(text, record, Some(repair)),
+        Some(Likely::Change(repair)) => push_suggested(text, record, b"Likely: ", repair),
         Some(Likely::Sheet(repair)) => push_likely_sheet(text, record, repair),
+        None => Ok(()),
+    }
+}
+
+/// Appends a bonus or a penalty that would explain the numbers of a record, if there is one: its change on a line that begins with `Or: `, and its
+/// evidence.
+///
+/// It fails only if memory runs out.
+pub fn push_amount(
+    text: &mut Vec<u8>,
+    record: &Record,
+    amount: Option<&Repair>,
+) -> Result<(), AllocError> {
+    match amount {
+        Some(repair) => push_suggested(text, record, b"Or: ", repair),
         None => Ok(()),
     }
 }
@@ -56,7 +89,10 @@ pub fn push_likely_numbers(
     likely: &Likely,
 ) -> Result<(), AllocError> {
     match likely {
-        Likely::Change(repair) => push_numbers(text, record, repair),
+        Likely::Change(repair) => {
+            let numbers = numbers_with(&repair.listed.change.slip, record.events.len());
+            push_share(text, &repair.remains, numbers)
+        }
         Likely::Sheet(repair) => {
             push_share(text, &repair.alone.remains, 2 * repair.right.len() as u128)
         }

@@ -2,21 +2,19 @@
 
 use crate::bad_records::push_line_repairs;
 use crate::chains::push_chain;
+use crate::changes::{push_change, push_change_at, push_change_of};
+use crate::evidence::push_evidence;
 use crate::letters::push_difference;
 use crate::sheets::push_sheet;
-use draft_changes::{count_written, numbers_to_go_by};
+use draft_numbers::{count_written, numbers_to_go_by};
 use explain_parts::{Part, say};
 use game_case::{Case, case_line};
 use gcg_drafts::Missing;
 use gcg_read::Record;
-use repair_answers::{
-    Faulty, Item, NumbersAlone, RepairAnswer, Reported, WORDS_OF_SLIPS, items_of,
-};
-use repair_chains::later_spot;
-use repair_changes::numbers_with_both;
-use repair_pairs::{Head, Pair, Pairs};
+use repair_answers::{Faulty, Item, NumbersAlone, RepairAnswer, Reported, items_of};
+use repair_changes::{WORDS_OF_SLIPS, numbers_with_both};
+use repair_pairs::{Head, Pair, Pairs, later_spot};
 use repair_single::Repair;
-use repair_words::{push_change, push_change_at, push_change_of, push_evidence};
 use std::alloc::{AllocError, Global};
 use text_decimals::push_number;
 

@@ -1,8 +1,9 @@
 //! A slip of the whole sheet that repairs a record.
 
+use crate::evidence::push_evidence;
+use crate::sheet_slips::push_sheet_slip;
 use gcg_read::Record;
 use repair_answers::SheetRepair;
-use repair_words::{push_evidence, push_sheet_slip};
 use std::alloc::AllocError;
 
 /// Appends the evidence for a slip of the whole sheet.

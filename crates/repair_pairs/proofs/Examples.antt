@@ -6,7 +6,7 @@ use Rattle.repair_changes.specs.declared.slips.MissingLine.TheVariants as line
 use Rattle.repair_changes.specs.declared.slips.PositionSlip.TheVariants as position
 use Rattle.repair_changes.specs.declared.slips.Slip.TheVariants as slip
 use Rattle.repair_single.specs.Costs.{costs}
-use Rattle.repair_pairs.specs.Made.{lines_there}
+use Rattle.repair_changes.specs.Applied.{lines_there}
 
 -- a play in the other direction and one that is a square off; all numbers are right with them
 two_plays : weight_of (slip.Position position.OtherDirection) + costs 0 0 (slip.Position (position.OneOff 126)) ≡ 4

@@ -3,3 +3,4 @@ pub mod Examples
 pub mod Firsts
 pub mod Adding
 pub mod Making
+pub mod Likeliest

@@ -8,9 +8,9 @@ use Rattle.game_walk.specs.declared.walking.Walk.{Walk}
 use Rattle.game_walk.specs.Refusals.{EndsAt}
 use Rattle.game_walk.specs.Walks.{IsWalk}
 use Rattle.repair_changes.specs.declared.slips.Change.{Change}
-use Rattle.repair_changes.specs.Applied.{applied}
+use Rattle.repair_changes.specs.Applied.{applied, lines_there}
 use Rattle.repair_single.specs.OnSheet.{on_sheet}
-use Rattle.repair_pairs.specs.Made.{lines_there, IsMade}
+use Rattle.repair_pairs.specs.Made.{IsMade}
 
 renumbered_by : (rules : Rules) (list : List (List ℕ)) (written right : List Event) (end : ℕ) (stopped : Option Stop) → EndsAt rules list written right end stopped → AreRenumbered written right
 renumbered_by rules list written right end None ends = ends.1.renumbered

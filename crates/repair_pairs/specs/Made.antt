@@ -5,18 +5,8 @@ use Rattle.gcg_read.specs.declared.events.Event.{Event}
 use Rattle.game_turns.specs.Places.{AreAllowedTo}
 use Rattle.game_corrections.specs.Corrections.{AreRenumbered}
 use Rattle.repair_changes.specs.declared.slips.Change.{Change}
-use Rattle.repair_changes.specs.declared.slips.Slip.{Slip}
-use Rattle.repair_changes.specs.declared.slips.Slip.TheVariants as slip
-use Rattle.repair_changes.specs.Applied.{applied, wrong_events}
+use Rattle.repair_changes.specs.Applied.{applied, lines_there}
 use Rattle.repair_single.specs.OnSheet.{on_sheet}
-
--- how many lines replace those that a slip concerns
-abbrev pub lines_there : Slip → ℕ
-lines_there slip.Repeated = 0
-lines_there slip.ExtraPass = 0
-lines_there slip.Extra = 0
-lines_there (slip.Missing line) = 1
-lines_there other = wrong_events other
 
 -- The record that a change makes, with the numbers of the sheet. Once they are corrected, the rules allow it up to the lines of the change. A missing line
 -- gets its right score and the total that goes with it, so that numbers that nobody wrote do not count as wrong.

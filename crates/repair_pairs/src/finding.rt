@@ -14,33 +14,26 @@ use game_walk::{Walk, walk_as_written};
 use gcg_read::{Event, Events};
 use lex_list::WordList;
 use ref_tiles::Rules;
-use repair_changes::weight_of;
+use repair_changes::{NUMBER, WORD, WORDS_OF_SLIPS, remaining_cost, weight_of};
 use repair_single::{Repair, repairs};
 use std::alloc::{AllocError, Global};
 
 /// How many first changes the search goes on with.
 const MOST_HEADS: usize = 3;
 
-/// What a wrong number costs. A repair that costs no more is likely enough: then no pairs are looked for.
-const NUMBER: usize = 5;
-
-/// How many words that are not in the list may come from slips. If more of them stay with a repair and all numbers agree with it, no pairs are looked for:
-/// so many words are phonies, or the game was played with another list.
-const MOST_WORDS: usize = 3;
-
-/// Fewer numbers and words than these have to stay wrong with both changes, as each costs at least 3; `None` if no single repair is known.
+/// Fewer numbers and words than these have to stay wrong with both changes, as each costs at least as much as a word; `None` if no single repair is known.
 fn below_of(singles: &[Repair], weight: usize) -> Option<usize> {
     let least = least_cost(singles)?;
-    let remaining = least.saturating_sub(weight) / 3;
+    let remaining = least.saturating_sub(weight) / WORD as usize;
     Some(remaining.saturating_add(1))
 }
 
 /// Whether a repair is likely: it costs no more than a wrong number, or it leaves no number wrong and more unlisted words than come from slips.
 fn is_likely(repair: &Repair) -> bool {
-    if repair.remains.cost(&repair.listed.change.slip) <= NUMBER as u128 {
+    if repair.remains.cost(&repair.listed.change.slip) <= NUMBER {
         return true;
     }
-    repair.remains.wrong.is_empty() && repair.remains.unlisted.len() > MOST_WORDS
+    repair.remains.wrong.is_empty() && repair.remains.unlisted.len() > WORDS_OF_SLIPS
 }
 
 /// Whether pairs are looked for: only if the rules refuse an event whatever its numbers are, and the first single repair is not likely.
@@ -66,9 +59,7 @@ fn push_pair(
     ensures { OnOk result (AddsPair singles.now made.now head weight then reported.old.items reported.new.items) }
 {
     let slips = weight as u128 + weight_of(&then.listed.change.slip) as u128;
-    let wrong = then.remains.wrong.len() as u128;
-    let unlisted = then.remains.unlisted.len() as u128;
-    let cost = 5 * wrong + 3 * unlisted + slips;
+    let cost = remaining_cost(then.remains.wrong.len(), then.remains.unlisted.len()) + slips;
     if !is_reported(singles, made, &then, cost) {
         return Ok(());
     }
@@ -117,7 +108,7 @@ fn push_head(
     };
     let weight = weight_of(&first.change.slip);
     let below = below_of(singles, weight);
-    let found = repairs(alloc, rules, list, &mut made, &[], below, most, Some(limit))?;
+    let found = repairs(alloc, rules, list, &mut made, below, most, Some(limit))?;
     let number = pairs.heads.len();
     push_pairs(
         &mut pairs.reported,

@@ -69,7 +69,7 @@ fn step_of(
 ///
 /// Nothing says that it is the only one, or the cheapest; the search ends once it took `limit` steps, about as many as the events that it went over. It fails
 /// only if memory runs out.
-pub fn first_step(
+pub(crate) fn first_step(
     alloc: Global,
     rules: &Rules,
     list: &WordList,

@@ -3,16 +3,16 @@
 ghost use Rattle.std.specs.Prelude.{◌≤◌};
 ghost use Rattle.gcg_read.specs.Numerals.{IsPoints};
 
-use crate::made::lines_there;
-use game_bests::unlisted_of;
 use game_corrections::{had_before, is_right_sum, mend};
-use game_turns::{Machine, withdraws};
+use game_turns::{Machine, unlisted_of, withdraws};
 use game_walk::{Row, Walk, walk_as_written};
 use gcg_read::{Event, Events};
 use lex_list::WordList;
 use ref_tiles::Rules;
-use repair_changes::{Change, apply, copy_slip, weight_of, wrong_events};
-use repair_single::sheet_with;
+use repair_changes::{
+    Change, NUMBER, WORD, apply, copy_slip, lines_there, weight_of, wrong_events,
+};
+use repair_single::on_sheet;
 use repair_slips::slips_at;
 use std::alloc::{AllocError, Global};
 
@@ -128,7 +128,7 @@ fn line_cost(alloc: Global, list: &WordList, row: &Row, had: i32) -> Result<u128
     requires { IsPoints had }
 {
     let words = unlisted_of(alloc, list, row.following.standing_words())?;
-    Ok(5 * wrong_on(row, had) + 3 * words.len() as u128)
+    Ok(NUMBER * wrong_on(row, had) + WORD * words.len() as u128)
 }
 
 /// What the lines of a sheet before the place `end` cost.
@@ -178,7 +178,7 @@ fn head_cost(
         return Ok(None);
     }
     *spent = spent.saturating_add(3 * events.len() as u64);
-    let mut sheet = sheet_with(alloc, change, events, changed.as_slice())?;
+    let mut sheet = on_sheet(alloc, change, events, changed.as_slice())?;
     let cost = front_cost(alloc, rules, list, &mut sheet, end)?;
     Ok(Some(cost.saturating_add(weight_of(&change.slip) as u128)))
 }

@@ -4,7 +4,7 @@ ghost use Rattle.repair_pairs.specs.Pairs.{ConcernsSheet, is_on_sheet, WrongOnSh
 
 use game_corrections::WrongNumber;
 use gcg_read::Event;
-use repair_changes::{Change, weight_of, wrong_events};
+use repair_changes::{Change, NUMBER, WORD, weight_of, wrong_events};
 use repair_single::{Repair, makes};
 
 /// Whether each line that a change concerns is on the sheet, and not one that a first change added.
@@ -72,7 +72,7 @@ fn makes_other(singles: &[Repair], then: &Repair) -> bool
 
 /// Whether each line that a repair of a record concerns, and each number that stays wrong with it, is on the sheet, and not on a line that an earlier change
 /// added.
-pub fn is_of_sheet(made: &[Event], then: &Repair) -> bool
+pub(crate) fn is_of_sheet(made: &[Event], then: &Repair) -> bool
     ensures lines { IsTrue result → ConcernsSheet made.now then.now.listed.change }
     ensures numbers { IsTrue result → WrongOnSheet then.now }
 {
@@ -93,8 +93,8 @@ pub(crate) fn is_reported(singles: &[Repair], made: &[Event], then: &Repair, cos
 /// What the likeliest of some repairs costs; `None` if there is no repair.
 pub(crate) fn least_cost(singles: &[Repair]) -> Option<usize> {
     let first = singles.first()?;
-    let numbers = first.remains.wrong.len().saturating_mul(5);
-    let words = first.remains.unlisted.len().saturating_mul(3);
+    let numbers = first.remains.wrong.len().saturating_mul(NUMBER as usize);
+    let words = first.remains.unlisted.len().saturating_mul(WORD as usize);
     let weight = weight_of(&first.listed.change.slip);
     Some(numbers.saturating_add(words).saturating_add(weight))
 }

@@ -4,5 +4,5 @@ pub mod Rounds
 pub mod Ends
 pub mod Names
 pub mod Rewriting
-pub mod SameLists
 pub mod Readings
+pub mod Choosing

@@ -6,3 +6,4 @@ pub mod Names
 pub mod Running
 pub mod Sheets
 pub mod Reading
+pub mod Kept

@@ -1,13 +1,9 @@
 -- What a text that was made of a sheet reads as, and which texts are kept.
 use Rattle.std.specs.Prelude.{◌≡◌, ◌⊎◌, ℕ, Bool, true, false, List, length, slice_get, Some, Ok}
-use Rattle.ref_tiles.specs.declared.symbols.Symbol.{Symbol}
-use Rattle.ref_board.specs.declared.squares.Square.{Square}
-use Rattle.ref_board.specs.declared.directions.Dir.{Dir}
 use Rattle.gcg_read.specs.declared.events.Event.{Event}
-use Rattle.gcg_read.specs.declared.events.EventKind.{EventKind}
-use Rattle.gcg_read.specs.declared.events.EventKind.TheVariants as kind
 use Rattle.gcg_read.specs.declared.players.Players.{Players}
 use Rattle.gcg_read.specs.declared.records.Record.{Record}
+use Rattle.gcg_read.specs.Alike.{SayTheSame}
 use Rattle.gcg_read.specs.Players.{player_of}
 use Rattle.gcg_read.specs.Records.{record_of}
 use Rattle.repair_sheets.specs.declared.slips.SheetSlip.{SheetSlip}
@@ -17,28 +13,6 @@ use Rattle.repair_sheets.specs.declared.slips.RunningSlip.TheVariants as running
 use Rattle.repair_rewrites.specs.Names.{AreNamed}
 
 -- ---- two events
-
--- two texts of a play, symbol by symbol
-pub record SameText (text other : List Symbol) : Type 0 where
-  pub as_many : length text ≡ length other
-  pub each : (place : ℕ) (a b : Symbol) → slice_get text place ≡ Some a → slice_get other place ≡ Some b → a ≡ b
-
--- a play of this text from this square in this direction
-abbrev pub IsPlayOf : EventKind → Square → Dir → List Symbol → Type 0
-IsPlayOf (kind.Play at dir word) square way text = (at ≡ square) × (dir ≡ way) × SameText word text
-IsPlayOf other square way text = ⊥
-
--- the same happened
-abbrev pub SameKind : EventKind → EventKind → Type 0
-SameKind what (kind.Play square way text) = IsPlayOf what square way text
-SameKind what other = what ≡ other
-
--- The lines of two events say the same, whichever lines of a text they are: the stated rack, what happened, the score and the total.
-pub record SayTheSame (e other : Event) : Type 0 where
-  pub rack : e.rack ≡ other.rack
-  pub kind : SameKind e.kind other.kind
-  pub score : e.score ≡ other.score
-  pub total : e.total ≡ other.total
 
 -- they say the same of the player with the same nickname, whichever seat that player has
 pub record SameByName (players others : Players) (e other : Event) : Type 0 where

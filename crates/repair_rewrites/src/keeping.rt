@@ -35,7 +35,7 @@ fn kept_by_name(
 ///
 /// It fails only if memory runs out.
 #[tactic(auto, using(crate::proofs::Readings::kept_by_seat, crate::proofs::Readings::unread_by_seat))]
-pub fn kept_by_seat(
+pub(crate) fn kept_by_seat(
     alloc: Global,
     made: Vec<u8>,
     right: &[Event],
@@ -55,7 +55,7 @@ pub fn kept_by_seat(
 ///
 /// Each other line is as it was given, but for numbers that are not right. That there is a text for each repair with which it has no more than 1 MiB
 /// is tested.
-pub fn kept_with(
+pub(crate) fn kept_with(
     alloc: Global,
     text: &[u8],
     players: &Players,
@@ -91,7 +91,7 @@ pub fn says_each_line(slip: &SheetSlip) -> bool
 /// line what should be there, if a player whose line is written anew has no nickname, or if the text does not read as these events.
 ///
 /// It fails only if memory runs out.
-pub fn kept_without(
+pub(crate) fn kept_without(
     alloc: Global,
     text: &[u8],
     players: &Players,

@@ -1,10 +1,12 @@
 //! The text of a sheet with a repair: the lines of its change are replaced, each line has its right numbers, and nothing else is
 //! changed, so titles, notes, blanks and line ends stay as they were.
 //!
-//! [`kept_with`] writes it, and [`kept_without`] without a slip of the whole sheet. Each reads its text again, and gives it only if it reads as the
-//! events with the repair. [`can_be_written`] says whether each player who has a line has a nickname.
+//! [`sheet_to_keep`] gives the text of a case by the choice among its repairs: with the repair that is chosen, without a slip of the whole sheet, or with only
+//! its numbers corrected. It is read again, and given only if it reads as the events with their right numbers. [`can_be_written`] says whether each player
+//! who has a line has a nickname.
 #![tactic(auto)]
 
+mod chosen;
 mod comparing;
 mod event_lines;
 mod keeping;
@@ -15,7 +17,7 @@ mod running;
 mod sheets;
 mod writing;
 
-pub use keeping::{kept_by_seat, kept_with, kept_without, says_each_line};
-pub use reading::{reads_by_name, reads_by_seat};
+pub use chosen::sheet_to_keep;
+pub use keeping::says_each_line;
 pub use sheets::can_be_without;
 pub use writing::can_be_written;

@@ -26,7 +26,7 @@ fn record_in(alloc: Global, text: &[u8]) -> Result<Result<Record, ReadFault>, Al
 ///
 /// It fails only if memory runs out.
 #[tactic(auto, using(crate::proofs::Readings::by_name, crate::proofs::Readings::nobody))]
-pub fn reads_by_name(
+pub(crate) fn reads_by_name(
     alloc: Global,
     text: &[u8],
     players: &Players,
@@ -44,7 +44,7 @@ pub fn reads_by_name(
 ///
 /// It fails only if memory runs out.
 #[tactic(auto, using(crate::proofs::Readings::by_seat, crate::proofs::Readings::no_seat))]
-pub fn reads_by_seat(alloc: Global, text: &[u8], right: &[Event]) -> Result<bool, AllocError>
+pub(crate) fn reads_by_seat(alloc: Global, text: &[u8], right: &[Event]) -> Result<bool, AllocError>
     ensures { IfOk result (λ reads. IsTrue reads ↔ ReadsBySeat right.now text.now) }
 {
     match record_in(alloc, text)? {

@@ -2,7 +2,6 @@
 ghost use Rattle.std.specs.Prelude.{◌≡◌, ◌≤◌, length};
 ghost use Rattle.repair_sheets.specs.Blanks.{as_laid, less, remaining_after, laid_from, laid_by, is_blank, count_blanks, has_capital, has_blank};
 
-use crate::copying::copy_text;
 use arrayvec::ArrayVec;
 use gcg_read::{EventKind, Text};
 use ref_board::SIDE;
@@ -73,7 +72,7 @@ pub(crate) fn laid_by(rack: &Option<Counts>, word: &Text) -> Text
 {
     match rack {
         Some(tiles) => laid_with(tiles, word),
-        None => copy_text(word),
+        None => word.copy(),
     }
 }
 

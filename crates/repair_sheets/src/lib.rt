@@ -10,7 +10,6 @@ mod as_events;
 mod bad_listing;
 mod begins;
 mod blanks;
-mod copying;
 mod listing;
 mod mending;
 mod places;

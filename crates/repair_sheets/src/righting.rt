@@ -3,7 +3,6 @@ ghost use Rattle.std.specs.Prelude.{◌≡◌, ◌≤◌, map, length, is_some};
 ghost use Rattle.repair_sheets.specs.Righting.{right_square, right_dir, other_case, right_word, right_kind, right_player, right_event, has_next, may_have, is_play, changes};
 
 use crate::blanks::{has_blank, laid_by};
-use crate::copying::{copy_kind, copy_text};
 use crate::slips::{RunningSlip, Way};
 use crate::squares::next_square;
 use arrayvec::ArrayVec;
@@ -69,7 +68,7 @@ fn right_word(slip: RunningSlip, rack: &Option<Counts>, word: &Text) -> Text
     match slip {
         RunningSlip::OtherCase => in_other_case(word),
         RunningSlip::CapitalBlanks => laid_by(rack, word),
-        _ => copy_text(word),
+        _ => word.copy(),
     }
 }
 
@@ -83,7 +82,7 @@ fn right_kind(slip: RunningSlip, rack: &Option<Counts>, kind: &EventKind) -> Eve
             dir: right_dir(slip, *dir),
             word: right_word(slip, rack, word),
         },
-        _ => copy_kind(kind),
+        _ => kind.copy(),
     }
 }
 

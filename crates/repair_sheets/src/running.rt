@@ -5,7 +5,6 @@ ghost use Rattle.gcg_read.specs.declared.events.Event.{Event};
 ghost use Rattle.repair_sheets.specs.Righting.{may_have, right_event};
 ghost use Rattle.repair_sheets.specs.Running.{running_without};
 
-use crate::copying::push_copies;
 use crate::righting::{may_have, right_event};
 use crate::slips::RunningSlip;
 use gcg_read::{Event, Events};
@@ -38,7 +37,7 @@ fn joined(
     ensures { IfOk result (λ events. events ≡ before.now ++ map (right_event slip) there.now) }
 {
     let mut events = Events::new(alloc);
-    push_copies(&mut events, before)?;
+    events.push_copies(before)?;
     push_right(&mut events, slip, there)?;
     Ok(events)
 }

@@ -11,6 +11,7 @@ use Rattle.repair_single.specs.Costs.{is_earlier}
 use Rattle.repair_single.specs.Candidates.{rank_in, IsCandidate, MayBeReported, IsThere, AreAllOf}
 use Rattle.repair_single.specs.declared.listed.Listed.{Listed}
 use Rattle.repair_single.specs.declared.candidate.Candidate.{Candidate}
+use Rattle.repair_single.specs.Remaining.{Weighing}
 
 -- ---- pairs of a list that is joined from two
 
@@ -55,9 +56,9 @@ there_either xs ys listed (inl is) = there_remaining xs ys listed is
 there_either xs ys listed (inr is) = there_right xs ys listed is
 
 -- nothing is among none
-pub none_of : (rules : Rules) (list : List (List ℕ)) (written : List Event) (plays : List Change) (below : Option ℕ) (W : Listed → Type 0) → ((l : Listed) → W l → MayBeReported rules list written plays below l → ⊥)
-    → AreAllOf rules list written plays below W []
-none_of rules list written plays below W none =
+pub none_of : (weigh : Weighing) (rules : Rules) (list : List (List ℕ)) (written : List Event) (plays : List Change) (below : Option ℕ) (W : Listed → Type 0) → ((l : Listed) → W l → MayBeReported weigh rules list written plays below l → ⊥)
+    → AreAllOf weigh rules list written plays below W []
+none_of weigh rules list written plays below W none =
     record {
       each = λ k d within. absurd (omega (arith, within));
       ordered = λ i j d less within. absurd (omega (arith, within));
@@ -65,23 +66,23 @@ none_of rules list written plays below W none =
     }
 
 -- one candidate among one change
-pub one_of : (rules : Rules) (list : List (List ℕ)) (written : List Event) (plays : List Change) (below : Option ℕ) (c : Candidate) → IsCandidate rules list written plays below c
-    → AreAllOf rules list written plays below (λ l. l ≡ c.listed) (c ∷ [])
-one_of rules list written plays below c is =
+pub one_of : (weigh : Weighing) (rules : Rules) (list : List (List ℕ)) (written : List Event) (plays : List Change) (below : Option ℕ) (c : Candidate) → IsCandidate weigh rules list written plays below c
+    → AreAllOf weigh rules list written plays below (λ l. l ≡ c.listed) (c ∷ [])
+one_of weigh rules list written plays below c is =
     record {
       each = only;
       ordered = λ i j d less within. absurd (omega (arith, less, within));
       all = λ l of_l may. record { candidate = c; among = (0, omega arith, refl); same = sym of_l };
     }
   where
-    only : (k : ℕ) (d : Candidate) → k < 1 → IsCandidate rules list written plays below (get_or (c ∷ []) k d) × (get_or (c ∷ []) k d).listed ≡ c.listed
+    only : (k : ℕ) (d : Candidate) → k < 1 → IsCandidate weigh rules list written plays below (get_or (c ∷ []) k d) × (get_or (c ∷ []) k d).listed ≡ c.listed
     only zero d within = (is, refl)
     only (suc k) d within = absurd (omega (arith, within))
 
 -- the candidates among other changes, which are the same as far as they may be repairs
-pub among_others : (rules : Rules) (list : List (List ℕ)) (written : List Event) (plays : List Change) (below : Option ℕ) (W V : Listed → Type 0) (xs : List Candidate) → AreAllOf rules list written plays below W xs
-    → ((l : Listed) → W l → V l) → ((l : Listed) → V l → MayBeReported rules list written plays below l → W l) → AreAllOf rules list written plays below V xs
-among_others rules list written plays below W V xs are more less =
+pub among_others : (weigh : Weighing) (rules : Rules) (list : List (List ℕ)) (written : List Event) (plays : List Change) (below : Option ℕ) (W V : Listed → Type 0) (xs : List Candidate) → AreAllOf weigh rules list written plays below W xs
+    → ((l : Listed) → W l → V l) → ((l : Listed) → V l → MayBeReported weigh rules list written plays below l → W l) → AreAllOf weigh rules list written plays below V xs
+among_others weigh rules list written plays below W V xs are more less =
     record {
       each = λ k d within. let at = are.each k d within in (at.0, more (get_or xs k d).listed at.1);
       ordered = are.ordered;
@@ -89,23 +90,23 @@ among_others rules list written plays below W V xs are more less =
     }
 
 -- the candidates among some changes, and after them those among later ones
-pub joined : (rules : Rules) (list : List (List ℕ)) (written : List Event) (plays : List Change) (below : Option ℕ) (W V U : Listed → Type 0) (xs ys : List Candidate) → AreAllOf rules list written plays below W xs
-    → AreAllOf rules list written plays below V ys → ((l : Listed) → W l → U l) → ((l : Listed) → V l → U l)
-    → ((l : Listed) → U l → MayBeReported rules list written plays below l → W l ⊎ V l)
+pub joined : (weigh : Weighing) (rules : Rules) (list : List (List ℕ)) (written : List Event) (plays : List Change) (below : Option ℕ) (W V U : Listed → Type 0) (xs ys : List Candidate) → AreAllOf weigh rules list written plays below W xs
+    → AreAllOf weigh rules list written plays below V ys → ((l : Listed) → W l → U l) → ((l : Listed) → V l → U l)
+    → ((l : Listed) → U l → MayBeReported weigh rules list written plays below l → W l ⊎ V l)
     → ((a b : Candidate) → W a.listed → V b.listed → is_earlier (rank_in a) (rank_in b) ≡ true)
-    → AreAllOf rules list written plays below U (xs ++ ys)
-joined rules list written plays below W V U xs ys of_xs of_ys from_w from_v split later =
+    → AreAllOf weigh rules list written plays below U (xs ++ ys)
+joined weigh rules list written plays below W V U xs ys of_xs of_ys from_w from_v split later =
     record {
-      each = All-append (λ (c : Candidate). IsCandidate rules list written plays below c × U c.listed) xs ys
+      each = All-append (λ (c : Candidate). IsCandidate weigh rules list written plays below c × U c.listed) xs ys
           (λ k d within. let at = of_xs.each k d within in (at.0, from_w (get_or xs k d).listed at.1))
           (λ k d within. let at = of_ys.each k d within in (at.0, from_v (get_or ys k d).listed at.1));
       ordered = pairs_joined (λ (a b : Candidate). is_earlier (rank_in a) (rank_in b) ≡ true) xs ys of_xs.ordered of_ys.ordered
           (λ a b in_xs in_ys.
-          later a b (All-contains (λ (c : Candidate). IsCandidate rules list written plays below c × W c.listed) xs a of_xs.each in_xs).1
-          (All-contains (λ (c : Candidate). IsCandidate rules list written plays below c × V c.listed) ys b of_ys.each in_ys).1);
+          later a b (All-contains (λ (c : Candidate). IsCandidate weigh rules list written plays below c × W c.listed) xs a of_xs.each in_xs).1
+          (All-contains (λ (c : Candidate). IsCandidate weigh rules list written plays below c × V c.listed) ys b of_ys.each in_ys).1);
       all = λ l of_l may. there_either xs ys l (all_either l may (split l of_l may));
     }
   where
-    all_either : (l : Listed) → MayBeReported rules list written plays below l → W l ⊎ V l → IsThere xs l ⊎ IsThere ys l
+    all_either : (l : Listed) → MayBeReported weigh rules list written plays below l → W l ⊎ V l → IsThere xs l ⊎ IsThere ys l
     all_either l may (inl w) = inl (of_xs.all l w may)
     all_either l may (inr v) = inr (of_ys.all l v may)

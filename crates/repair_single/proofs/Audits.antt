@@ -21,8 +21,8 @@ use Rattle.game_walk.specs.declared.walking.Walk.{Walk}
 use Rattle.game_walk.specs.Refusals.{EndsAt}
 use Rattle.game_walk.specs.Rows.{AreRowsTo}
 use Rattle.game_walk.specs.Walks.{IsWalk}
-use Rattle.game_bests.specs.declared.unlisted.SpelledWord.{SpelledWord}
-use Rattle.game_bests.specs.Unlisted.{letters_in, unlisted_of}
+use Rattle.game_turns.specs.declared.unlisted.SpelledWord.{SpelledWord}
+use Rattle.game_turns.specs.Unlisted.{letters_in, unlisted_of}
 use Rattle.repair_changes.specs.Splices.{spliced}
 use Rattle.repair_changes.specs.Applied.{applied}
 use Rattle.repair_changes.specs.declared.slips.Change.{Change}

@@ -22,7 +22,7 @@ use Rattle.game_corrections.specs.Corrections.{AreRenumbered}
 use Rattle.game_corrections.specs.LastTotals.{last_total}
 use Rattle.game_corrections.specs.WrongNumbers.{had_before}
 use Rattle.game_corrections.proofs.Fronts.{both_renumbered, fronts_agree, same_tally}
-use Rattle.game_bests.specs.Unlisted.{unlisted_of}
+use Rattle.game_turns.specs.Unlisted.{unlisted_of}
 use Rattle.repair_changes.specs.Applied.{applied}
 use Rattle.repair_changes.specs.declared.slips.Change.{Change}
 use Rattle.repair_changes.specs.declared.slips.Slip.{Slip}

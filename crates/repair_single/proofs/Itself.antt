@@ -5,14 +5,15 @@ use Rattle.ref_tiles.specs.declared.symbols.Symbol.{Symbol}
 use Rattle.gcg_read.specs.declared.events.Event.{Event}
 use Rattle.gcg_read.specs.declared.events.EventKind.{EventKind}
 use Rattle.gcg_read.specs.declared.events.EventKind.TheVariants as kind
-use Rattle.repair_single.specs.Repairs.{SameSymbol, SameText, SameKind, SameEvent, SameRecord}
+use Rattle.gcg_read.specs.Alike.{AgreeSymbols, AgreeTexts}
+use Rattle.repair_single.specs.Repairs.{SameKind, SameEvent, SameRecord}
 
 -- something holds for each element of a list and itself
 each_itself : {X : Type 0} (P : X → X → Type 0) → ((x : X) → P x x) → (xs : List X) (place : ℕ) (a b : X) → slice_get xs place ≡ Some a → slice_get xs place ≡ Some b → P a b
 each_itself P all xs place a b of_a of_b = subst (P a) (same_Some a b (sym of_a ∙ of_b)) (all a)
 
-text_itself : (word : List Symbol) → SameText word word
-text_itself word = record { as_many = refl; each = λ place a b of_a of_b. each_itself SameSymbol (λ (x : Symbol). inr (inr refl)) word place a b of_a of_b }
+text_itself : (word : List Symbol) → AgreeTexts word word
+text_itself word = record { as_many = refl; each = λ place a b of_a of_b. each_itself AgreeSymbols (λ (x : Symbol). inr (inr refl)) word place a b of_a of_b }
 
 kind_itself : (what : EventKind) → SameKind what what
 kind_itself (kind.Play at dir word) = (refl, refl, text_itself word)

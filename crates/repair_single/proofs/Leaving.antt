@@ -11,7 +11,7 @@ use Rattle.game_turns.specs.Machines.{state_of}
 use Rattle.gcg_read.specs.declared.events.Event.{Event}
 use Rattle.game_walk.specs.declared.rows.Row.{Row}
 use Rattle.game_corrections.specs.WrongNumbers.{had_before}
-use Rattle.game_bests.specs.Unlisted.{unlisted_one, unlisted_of}
+use Rattle.game_turns.specs.Unlisted.{unlisted_one, unlisted_of}
 use Rattle.repair_single.specs.Remaining.{AreFewer}
 use Rattle.repair_single.specs.Sums.{count_scores, count_sums}
 use Rattle.repair_single.specs.Counting.{less, Leaves, sum_from, count_unlisted, had_at, count_by_row, count_at_row, count_in_rows}

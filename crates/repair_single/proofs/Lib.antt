@@ -29,10 +29,9 @@ pub mod Itself
 pub mod FirstOnes
 pub mod SortedOnes
 pub mod Reportings
-pub mod OneRepair
 pub mod Parts
 pub mod Neighbours
 pub mod Rejoining
 pub mod GoingWrong
 pub mod Commonest
-pub mod InOrder
+pub mod Whole

@@ -9,18 +9,19 @@ use Rattle.repair_single.specs.Reporting.{IsTriedWith, IsTried}
 use Rattle.repair_single.specs.Trying.{IsWritable, HaveNone}
 use Rattle.repair_single.specs.declared.candidate.Candidate.{Candidate}
 use Rattle.repair_single.specs.declared.found.Found.{Found}
+use Rattle.repair_single.specs.Remaining.{Weighing}
 
-tried : (rules : Rules) (list : List (List ℕ)) (written : List Event) (c : Candidate) (right : List Event) (old new : Found) → IsWritable rules list (applied c.listed.change written) right
-    → IsTriedWith rules list written c.listed right old new → IsTried rules list written c old new
-tried rules list written c right old new is with_right other of_other =
-    subst (λ (es : List Event). IsTriedWith rules list written c.listed es old new)
+tried : (weigh : Weighing) (rules : Rules) (list : List (List ℕ)) (written : List Event) (c : Candidate) (right : List Event) (old new : Found) → IsWritable rules list (applied c.listed.change written) right
+    → IsTriedWith weigh rules list written c.listed right old new → IsTried weigh rules list written c old new
+tried weigh rules list written c right old new is with_right other of_other =
+    subst (λ (es : List Event). IsTriedWith weigh rules list written c.listed es old new)
     (one_correction rules list (applied c.listed.change written) right other is.correction of_other.correction) with_right
 
-pub tried_ok : {A E : Type 0} (rules : Rules) (list : List (List ℕ)) (written : List Event) (c : Candidate) (right : List Event) (old new : Found) (r : Result A E)
-    → IsWritable rules list (applied c.listed.change written) right → OnOk r (IsTriedWith rules list written c.listed right old new) → OnOk r (IsTried rules list written c old new)
-tried_ok rules list written c right old new (Ok a) is with_right = tried rules list written c right old new is with_right
-tried_ok rules list written c right old new (Err e) is with_right = tt
+pub tried_ok : {A E : Type 0} (weigh : Weighing) (rules : Rules) (list : List (List ℕ)) (written : List Event) (c : Candidate) (right : List Event) (old new : Found) (r : Result A E)
+    → IsWritable rules list (applied c.listed.change written) right → OnOk r (IsTriedWith weigh rules list written c.listed right old new) → OnOk r (IsTried weigh rules list written c old new)
+tried_ok weigh rules list written c right old new (Ok a) is with_right = tried weigh rules list written c right old new is with_right
+tried_ok weigh rules list written c right old new (Err e) is with_right = tt
 
-pub none_tried : (rules : Rules) (list : List (List ℕ)) (written : List Event) (c : Candidate) (old new : Found) → HaveNone rules list (applied c.listed.change written)
-    → IsTried rules list written c old new
-none_tried rules list written c old new none right is = absurd (none right is)
+pub none_tried : (weigh : Weighing) (rules : Rules) (list : List (List ℕ)) (written : List Event) (c : Candidate) (old new : Found) → HaveNone rules list (applied c.listed.change written)
+    → IsTried weigh rules list written c old new
+none_tried weigh rules list written c old new none right is = absurd (none right is)

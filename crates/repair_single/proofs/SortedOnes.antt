@@ -13,6 +13,7 @@ use Rattle.repair_single.specs.Candidates.{rank_in, IsCandidate, MayBeReported, 
 use Rattle.repair_single.specs.declared.listed.Listed.{Listed}
 use Rattle.repair_single.specs.declared.candidate.Candidate.{Candidate}
 use Rattle.repair_single.proofs.Sorting.{sorted_pairs}
+use Rattle.repair_single.specs.Remaining.{Weighing}
 
 or_left : (a b : Bool) → a ≡ true → (a || b) ≡ true
 or_left true b is = refl
@@ -29,13 +30,13 @@ ahead_by a b (inl less) = or_left (nat_lt a.cost b.cost) (a.cost == b.cost && is
 ahead_by a b (inr (same, earlier)) =
     or_right (nat_lt a.cost b.cost) (a.cost == b.cost) (is_earlier (rank_in a) (rank_in b)) (eq-eqb a.cost b.cost same) earlier
 
-pub sorted_ones : (rules : Rules) (list : List (List ℕ)) (written : List Event) (plays : List Change) (below : Option ℕ) (from last : ℕ) (old new : List Candidate) → ((l : Listed) → MayBeReported rules list written plays below l → l.change.place < last)
-    → AreBetween rules list written plays below from last old → IsPermutation old new → IsNonDecreasingBy (λ (c : Candidate). c.cost) new
-    → IsStableByKey (λ (c : Candidate). c.cost) nat_cmp old new → AreCandidates rules list written plays below from new
-sorted_ones rules list written plays below from last old new within are moved rises stable =
+pub sorted_ones : (weigh : Weighing) (rules : Rules) (list : List (List ℕ)) (written : List Event) (plays : List Change) (below : Option ℕ) (from last : ℕ) (old new : List Candidate) → ((l : Listed) → MayBeReported weigh rules list written plays below l → l.change.place < last)
+    → AreBetween weigh rules list written plays below from last old → IsPermutation old new → IsNonDecreasingBy (λ (c : Candidate). c.cost) new
+    → IsStableByKey (λ (c : Candidate). c.cost) nat_cmp old new → AreCandidates weigh rules list written plays below from new
+sorted_ones weigh rules list written plays below from last old new within are moved rises stable =
     record {
-      each = All-weaker (λ (c : Candidate). IsCandidate rules list written plays below c × IsBetween from last c.listed.change.place) (IsCandidate rules list written plays below) (λ c both. both.0) new
-          (All-permutation (λ (c : Candidate). IsCandidate rules list written plays below c × IsBetween from last c.listed.change.place) old new moved are.each);
+      each = All-weaker (λ (c : Candidate). IsCandidate weigh rules list written plays below c × IsBetween from last c.listed.change.place) (IsCandidate weigh rules list written plays below) (λ c both. both.0) new
+          (All-permutation (λ (c : Candidate). IsCandidate weigh rules list written plays below c × IsBetween from last c.listed.change.place) old new moved are.each);
       ordered = λ i j d less inside.
           ahead_by (get_or new i d) (get_or new j d)
           (sorted_pairs (λ (a b : Candidate). is_earlier (rank_in a) (rank_in b) ≡ true) (λ (c : Candidate). c.cost) old new are.ordered rises stable i j d less inside);

@@ -20,7 +20,7 @@ use Rattle.game_corrections.specs.Mending.{after_event, state_after}
 use Rattle.game_corrections.specs.WrongNumbers.{had_before, wrong_score, wrong_sum, wrong_of, wrong_at, wrong_lines}
 use Rattle.game_corrections.specs.declared.wrong_numbers.WrongNumber.{WrongNumber}
 use Rattle.game_corrections.proofs.Sheets.{some_event}
-use Rattle.game_bests.specs.Unlisted.{unlisted_of}
+use Rattle.game_turns.specs.Unlisted.{unlisted_of}
 use Rattle.repair_changes.specs.Applied.{applied}
 use Rattle.repair_changes.specs.declared.slips.Change.{Change}
 use Rattle.repair_single.specs.OnSheet.{on_sheet}

@@ -1,20 +1,20 @@
 -- How likely a repair is: the less it costs, the likelier.
-use Rattle.std.specs.Prelude.{ℕ, ◌+◌, ◌*◌, ◌==◌, ◌&&◌, ◌||◌, nat_lt, Bool, List, length}
+use Rattle.std.specs.Prelude.{ℕ, ◌+◌, ◌==◌, ◌&&◌, ◌||◌, nat_lt, Bool, List, length}
 use Rattle.ref_tiles.specs.declared.rulebook.Rules.{Rules}
 use Rattle.gcg_read.specs.declared.events.Event.{Event}
 use Rattle.repair_changes.specs.declared.slips.Change.{Change}
 use Rattle.repair_changes.specs.declared.slips.Slip.{Slip}
-use Rattle.repair_changes.specs.Weights.{weight_of}
-use Rattle.repair_single.specs.Remaining.{wrong_with, unlisted_words}
+use Rattle.repair_changes.specs.Weights.{remaining_cost, weight_of}
+use Rattle.repair_single.specs.Remaining.{Weighing, unlisted_words}
 use Rattle.repair_single.specs.declared.listed.Listed.{Listed}
 use Rattle.repair_single.specs.declared.repair.Repair.{Repair}
 
--- A wrong number costs 5, a word that is not in the list 3, and the slip what it weighs.
+-- What stays wrong costs 5 for each number and 3 for each word, and the slip what it weighs.
 abbrev pub costs : (wrong unlisted : ℕ) → Slip → ℕ
-costs wrong unlisted what = 5 * wrong + 3 * unlisted + weight_of what
+costs wrong unlisted what = remaining_cost wrong unlisted + weight_of what
 
-unfoldable pub cost_of : Rules → (list : List (List ℕ)) → Change → (written right : List Event) → ℕ
-cost_of rules list change written right = costs (length (wrong_with change written right)) (length (unlisted_words rules list right)) change.slip
+unfoldable pub cost_of : (weigh : Weighing) → Rules → (list : List (List ℕ)) → Change → (written right : List Event) → ℕ
+cost_of weigh rules list change written right = costs (length (weigh change written right)) (length (unlisted_words rules list right)) change.slip
 
 -- What a repair costs, and the position of its change in the list of all: a place of the record, and a number among those of the place.
 pub record Rank : Type 0 where

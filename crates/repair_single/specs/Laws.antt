@@ -1,5 +1,5 @@
--- Laws: where no change helps, and which records are always tried.
-use Rattle.std.specs.Prelude.{◌≡◌, ◌⊎◌, ℕ, ◌+◌, ◌<◌, List, take, Contains, None}
+-- Laws: where no change helps, which records are always tried, and that a record is a draft.
+use Rattle.std.specs.Prelude.{◌≡◌, ◌⊎◌, ℕ, ◌+◌, ◌<◌, Bool, true, false, List, take, Contains, None}
 use Rattle.ref_tiles.specs.declared.rulebook.Rules.{Rules}
 use Rattle.gcg_read.specs.declared.events.Event.{Event}
 use Rattle.game_turns.specs.declared.faults.RuleFault.{RuleFault}
@@ -7,12 +7,18 @@ use Rattle.game_corrections.specs.Corrections.{IsCorrection, StopsAt}
 use Rattle.deal_cuts.specs.Cutting.{HasNoDeal}
 use Rattle.game_deal.specs.Recorded.{steps_of}
 use Rattle.game_deal.specs.Verdicts.{IsGame}
+use Rattle.gcg_drafts.specs.declared.missing.Missing.{Missing}
+use Rattle.draft_numbers.specs.Laws.{is_whole}
 use Rattle.repair_changes.specs.declared.slips.Change.{Change}
+use Rattle.repair_changes.specs.declared.slips.Slip.{Slip}
+use Rattle.repair_changes.specs.declared.slips.Slip.TheVariants as slip
 use Rattle.repair_changes.specs.Applied.{applied}
 use Rattle.repair_slips.specs.Commonest.{DifferSlightly}
 use Rattle.repair_single.specs.Costs.{rank_at, cost_of}
+use Rattle.repair_single.specs.Remaining.{wrong_with}
 use Rattle.repair_single.specs.Repairs.{IsListed, IsReportedAt, AreAhead, AreFirstRepairs}
 use Rattle.repair_single.specs.Trying.{HaveNone, IsWritable}
+use Rattle.repair_single.specs.Weighers.{written_with}
 use Rattle.repair_single.specs.declared.listed.Listed.{Listed}
 use Rattle.repair_single.specs.declared.repair.Repair.{Repair}
 
@@ -43,8 +49,8 @@ CommonestAreTried = (rules : Rules) (written : List Event) (plays : List Change)
 -- a record that is tried is given, it is left open, or `most` others are ahead
 pub record IsAnswered (rules : Rules) (list : List (List ℕ)) (written : List Event) (plays : List Change) (most : ℕ) (reported : List Repair) (remaining : List Listed) (other right : List Event) : Type 0 where
   pub tried : IsTried rules written plays other
-  pub given : Contains remaining tried.listed ⊎ IsReportedAt reported right (rank_at (cost_of rules list tried.listed.change written right) tried.listed)
-      ⊎ AreAhead most reported (rank_at (cost_of rules list tried.listed.change written right) tried.listed)
+  pub given : Contains remaining tried.listed ⊎ IsReportedAt reported right (rank_at (cost_of wrong_with rules list tried.listed.change written right) tried.listed)
+      ⊎ AreAhead most reported (rank_at (cost_of wrong_with rules list tried.listed.change written right) tried.listed)
 
 -- So if such a record is a game once its numbers are corrected, and the sheet is not, it is among the first repairs, unless its deal is left open or there
 -- are enough others that cost less.
@@ -53,3 +59,14 @@ CommonestAreAnswered =
     (rules : Rules) (list : List (List ℕ)) (written : List Event) (plays : List Change) (most : ℕ) (reported : List Repair) (remaining : List Listed)
     → AreFirstRepairs rules list written plays None 0 most reported remaining → (place : ℕ) (other right : List Event) → DifferSlightly place written other
     → IsWritable rules list other right → IsGame rules list right → IsAnswered rules list written plays most reported remaining other right
+
+-- whether a slip is that a line is missing, of which nothing is written
+abbrev pub is_missing_line : Slip → Bool
+is_missing_line (slip.Missing line) = true
+is_missing_line other = false
+
+-- A record is the draft in which nothing is missing: with any other change the same numbers stay wrong.
+abbrev pub WholeIsRecord : Type 0
+WholeIsRecord =
+    (lacks : List Missing) (change : Change) (written right : List Event) → is_whole lacks ≡ true → is_missing_line change.slip ≡ false
+    → written_with lacks change written right ≡ wrong_with change written right

@@ -1,6 +1,7 @@
 pub mod OnSheet
 pub mod Sums
 pub mod Remaining
+pub mod Weighers
 pub mod Counting
 pub mod Costs
 pub mod Trying

@@ -10,7 +10,7 @@ use Rattle.game_walk.specs.declared.rows.Row.{Row}
 use Rattle.game_corrections.specs.declared.wrong_numbers.WrongNumber.{WrongNumber}
 use Rattle.game_corrections.specs.declared.wrong_numbers.WrongNumber.TheVariants as number
 use Rattle.game_corrections.specs.WrongNumbers.{wrong_lines}
-use Rattle.game_bests.specs.Unlisted.{letters_in, unlisted_of}
+use Rattle.game_turns.specs.Unlisted.{letters_in, unlisted_of}
 use Rattle.repair_changes.specs.declared.slips.Change.{Change}
 use Rattle.repair_changes.specs.Applied.{applied}
 use Rattle.repair_single.specs.OnSheet.{on_sheet}
@@ -40,9 +40,16 @@ words_of_row list row = unlisted_of list (standing_words (state_of row.following
 unfoldable pub words_of_rows : (list : List (List ℕ)) → List Row → List (List ℕ)
 words_of_rows list rows = flat_map (words_of_row list) rows
 
+-- Which numbers stay wrong with a change, of those that count: on a record all of them do (`wrong_with`), on a draft those that are written.
+abbrev pub Weighing : Type 0
+Weighing = Change → (written right : List Event) → List WrongNumber
+
 -- how many numbers and words stay wrong
 abbrev pub count_remaining : Rules → (list : List (List ℕ)) → Change → (written right : List Event) → ℕ
 count_remaining rules list change written right = length (wrong_with change written right) + length (unlisted_words rules list right)
+
+abbrev pub count_by : (weigh : Weighing) → Rules → (list : List (List ℕ)) → Change → (written right : List Event) → ℕ
+count_by weigh rules list change written right = length (weigh change written right) + length (unlisted_words rules list right)
 
 -- fewer than these, if there is a number that they must stay below
 abbrev pub AreFewer : (below : Option ℕ) → (many : ℕ) → Type 0
@@ -50,6 +57,6 @@ AreFewer None many = ⊤
 AreFewer (Some below) many = many < below
 
 -- what stays wrong
-pub record Remain (rules : Rules) (list : List (List ℕ)) (change : Change) (written right : List Event) (remains : Remains) : Type 0 where
-  pub wrong : remains.wrong.items ≡ wrong_with change written right
+pub record Remain (weigh : Weighing) (rules : Rules) (list : List (List ℕ)) (change : Change) (written right : List Event) (remains : Remains) : Type 0 where
+  pub wrong : remains.wrong.items ≡ weigh change written right
   pub unlisted : letters_in remains.unlisted.items ≡ unlisted_words rules list right

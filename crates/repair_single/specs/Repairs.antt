@@ -1,19 +1,16 @@
 -- Which changes of a record are repairs, and which are given.
 use Rattle.std.specs.Prelude.{◌≡◌, ◌⊎◌, ℕ, ◌≤◌, true, false, List, length, All, AllPairs, Any, Contains, slice_get, Option, Some}
 use Rattle.ref_tiles.specs.declared.rulebook.Rules.{Rules}
-use Rattle.ref_tiles.specs.declared.symbols.Symbol.{Symbol}
-use Rattle.ref_tiles.specs.declared.symbols.Symbol.TheVariants as symbol
-use Rattle.ref_board.specs.declared.squares.Square.{Square}
-use Rattle.ref_board.specs.declared.directions.Dir.{Dir}
 use Rattle.gcg_read.specs.declared.events.Event.{Event}
 use Rattle.gcg_read.specs.declared.events.EventKind.{EventKind}
 use Rattle.gcg_read.specs.declared.events.EventKind.TheVariants as kind
+use Rattle.gcg_read.specs.Alike.{IsPlayOf}
 use Rattle.game_deal.specs.Verdicts.{IsGame, IsUnsettled}
 use Rattle.repair_changes.specs.Applied.{applied}
 use Rattle.repair_changes.specs.declared.slips.Change.{Change}
 use Rattle.repair_single.specs.Listing.{changes_with}
 use Rattle.repair_single.specs.Costs.{Rank, rank_at, rank_of, is_ahead, cost_of}
-use Rattle.repair_single.specs.Remaining.{AreFewer, Remain, count_remaining}
+use Rattle.repair_single.specs.Remaining.{Weighing, AreFewer, Remain, count_by, wrong_with}
 use Rattle.repair_single.specs.Trying.{IsWritable}
 use Rattle.repair_single.specs.declared.listed.Listed.{Listed}
 use Rattle.repair_single.specs.declared.repair.Repair.{Repair}
@@ -25,32 +22,17 @@ pub record IsListed (rules : Rules) (written : List Event) (plays : List Change)
   pub there : slice_get (changes_with rules written plays listed.change.place) listed.index ≡ Some listed.change
 
 -- A repair is a single change of a record after which its correction is a game: the rules allow each event with its right numbers, and
--- some deal yields every rack. If the record itself is a game once its numbers are corrected, fewer numbers and words stay wrong.
-pub record MakesGame (rules : Rules) (list : List (List ℕ)) (written : List Event) (plays : List Change) (below : Option ℕ) (listed : Listed) (right : List Event) : Type 0 where
+-- some deal yields every rack. If the record itself is a game once its numbers are corrected, fewer numbers that count, and fewer words, stay wrong.
+pub record MakesGame (weigh : Weighing) (rules : Rules) (list : List (List ℕ)) (written : List Event) (plays : List Change) (below : Option ℕ) (listed : Listed) (right : List Event) : Type 0 where
   pub single : IsListed rules written plays listed
   pub correction : IsWritable rules list (applied listed.change written) right
   pub game : IsGame rules list right
-  pub fewer : AreFewer below (count_remaining rules list listed.change written right)
+  pub fewer : AreFewer below (count_by weigh rules list listed.change written right)
 
 -- a repair, with the record that it makes and what stays wrong
-pub record IsRepair (rules : Rules) (list : List (List ℕ)) (written : List Event) (plays : List Change) (below : Option ℕ) (r : Repair) : Type 0 where
-  pub makes : MakesGame rules list written plays below r.listed r.right
-  pub remain : Remain rules list r.listed.change written r.right r.remains
-
--- The same symbol at the same square, or a dot in one of the texts. A dot stands for the tile on its square; in a game a letter on such a
--- square is the letter of that tile, and neither lays a tile.
-abbrev pub SameSymbol : Symbol → Symbol → Type 0
-SameSymbol a b = (a ≡ symbol.Dot) ⊎ (b ≡ symbol.Dot) ⊎ (a ≡ b)
-
--- two texts of one play, in which a tile that was there is a letter or a dot
-pub record SameText (text other : List Symbol) : Type 0 where
-  pub as_many : length text ≡ length other
-  pub each : (place : ℕ) (a b : Symbol) → slice_get text place ≡ Some a → slice_get other place ≡ Some b → SameSymbol a b
-
--- a play of the same text from the same square in the same direction
-abbrev pub IsPlayOf : EventKind → Square → Dir → List Symbol → Type 0
-IsPlayOf (kind.Play at dir word) square way text = (at ≡ square) × (dir ≡ way) × SameText word text
-IsPlayOf other square way text = ⊥
+pub record IsRepairBy (weigh : Weighing) (rules : Rules) (list : List (List ℕ)) (written : List Event) (plays : List Change) (below : Option ℕ) (r : Repair) : Type 0 where
+  pub makes : MakesGame weigh rules list written plays below r.listed r.right
+  pub remain : Remain weigh rules list r.listed.change written r.right r.remains
 
 -- the same happened
 abbrev pub SameKind : EventKind → EventKind → Type 0
@@ -97,12 +79,19 @@ pub record AreAhead (most : ℕ) (reported : List Repair) (by : Rank) : Type 0 w
 -- The first `most` repairs of a record at the places from one on, in their order. Each record that they make is made once, by the change
 -- that costs least, and by the first of several such changes. A repair at such a place is left out only for such a one, or if `most` others
 -- are ahead, or if its deal is left open. Nothing is said of the changes at the places before.
-pub record AreFirstRepairs (rules : Rules) (list : List (List ℕ)) (written : List Event) (plays : List Change) (below : Option ℕ) (from most : ℕ) (reported : List Repair) (remaining : List Listed) : Type 0 where
-  pub repairs : All (IsRepair rules list written plays below) reported
+pub record AreFirstBy (weigh : Weighing) (rules : Rules) (list : List (List ℕ)) (written : List Event) (plays : List Change) (below : Option ℕ) (from most : ℕ) (reported : List Repair) (remaining : List Listed) : Type 0 where
+  pub repairs : All (IsRepairBy weigh rules list written plays below) reported
   pub few : length reported ≤ most
   pub ordered : AllPairs (λ (a b : Repair). is_ahead (rank_of a) (rank_of b) ≡ true) reported
   pub once : AllPairs (λ (a b : Repair). SameRecord a.right b.right → ⊥) reported
   pub unsettled : All (RemainsOpen rules list written plays) remaining
-  pub others : (listed : Listed) (right : List Event) → from ≤ listed.change.place → MakesGame rules list written plays below listed right
-      → Contains remaining listed ⊎ IsReportedAt reported right (rank_at (cost_of rules list listed.change written right) listed)
-      ⊎ AreAhead most reported (rank_at (cost_of rules list listed.change written right) listed)
+  pub others : (listed : Listed) (right : List Event) → from ≤ listed.change.place → MakesGame weigh rules list written plays below listed right
+      → Contains remaining listed ⊎ IsReportedAt reported right (rank_at (cost_of weigh rules list listed.change written right) listed)
+      ⊎ AreAhead most reported (rank_at (cost_of weigh rules list listed.change written right) listed)
+
+-- On a record all numbers count.
+abbrev pub IsRepair : Rules → (list : List (List ℕ)) → (written : List Event) → (plays : List Change) → (below : Option ℕ) → Repair → Type 0
+IsRepair rules list written plays below r = IsRepairBy wrong_with rules list written plays below r
+
+abbrev pub AreFirstRepairs : Rules → (list : List (List ℕ)) → (written : List Event) → (plays : List Change) → (below : Option ℕ) → (from most : ℕ) → (reported : List Repair) → (remaining : List Listed) → Type 0
+AreFirstRepairs rules list written plays below from most reported remaining = AreFirstBy wrong_with rules list written plays below from most reported remaining

@@ -11,7 +11,7 @@ use Rattle.game_deal.specs.Verdicts.{IsGame}
 use Rattle.repair_changes.specs.declared.slips.Change.{Change}
 use Rattle.repair_changes.specs.Applied.{applied}
 use Rattle.repair_single.specs.Costs.{cost_of}
-use Rattle.repair_single.specs.Remaining.{AreFewer, count_remaining}
+use Rattle.repair_single.specs.Remaining.{Weighing, AreFewer, count_by, count_remaining}
 use Rattle.repair_single.specs.Sums.{IsSheetBut}
 use Rattle.repair_single.specs.Counting.{count_at, sum_from}
 
@@ -41,6 +41,11 @@ abbrev pub NoneReported : Rules → (list : List (List ℕ)) → (written : List
 NoneReported rules list written below change =
     (right : List Event) → IsWritable rules list (applied change written) right → AreFewer below (count_remaining rules list change written right) → IsGame rules list right → ⊥
 
+-- the same, if not all numbers count
+abbrev pub NoneReportedBy : (weigh : Weighing) → Rules → (list : List (List ℕ)) → (written : List Event) → (below : Option ℕ) → Change → Type 0
+NoneReportedBy weigh rules list written below change =
+    (right : List Event) → IsWritable rules list (applied change written) right → AreFewer below (count_by weigh rules list change written right) → IsGame rules list right → ⊥
+
 -- the correction that a record can write, or that there is none
 abbrev pub IsCorrectionOf : Rules → (list : List (List ℕ)) → (changed : List Event) → Option (List Event) → Type 0
 IsCorrectionOf rules list changed None = HaveNone rules list changed
@@ -60,13 +65,13 @@ pub record IsStart (written changed : List Event) (place start : ℕ) : Type 0 w
   pub same : (start ≡ 0) ⊎ (withdraws (slice_get changed start) ≡ withdraws (slice_get written start))
 
 -- What a change costs if the record has a correction with it that leaves few enough numbers and words wrong.
-pub record IsWeighed (rules : Rules) (list : List (List ℕ)) (written : List Event) (below : Option ℕ) (change : Change) (number : ℕ) : Type 0 where
+pub record IsWeighed (weigh : Weighing) (rules : Rules) (list : List (List ℕ)) (written : List Event) (below : Option ℕ) (change : Change) (number : ℕ) : Type 0 where
   pub right : List Event
   pub is : IsWritable rules list (applied change written) right
-  pub fewer : AreFewer below (count_remaining rules list change written right)
-  pub costs : number ≡ cost_of rules list change written right
+  pub fewer : AreFewer below (count_by weigh rules list change written right)
+  pub costs : number ≡ cost_of weigh rules list change written right
 
 -- the same, or that there is no such correction that is a game
-abbrev pub IsWeight : Rules → (list : List (List ℕ)) → (written : List Event) → (below : Option ℕ) → Change → Option ℕ → Type 0
-IsWeight rules list written below change None = NoneReported rules list written below change
-IsWeight rules list written below change (Some number) = IsWeighed rules list written below change number
+abbrev pub IsWeight : (weigh : Weighing) → Rules → (list : List (List ℕ)) → (written : List Event) → (below : Option ℕ) → Change → Option ℕ → Type 0
+IsWeight weigh rules list written below change None = NoneReportedBy weigh rules list written below change
+IsWeight weigh rules list written below change (Some number) = IsWeighed weigh rules list written below change number

@@ -4,7 +4,7 @@ use crate::listed::Listed;
 
 /// A change with which a record has a correction.
 #[derive(Drop)]
-pub struct Candidate {
+pub(crate) struct Candidate {
     /// The change.
     pub listed: Listed,
     /// What it costs.
@@ -13,7 +13,7 @@ pub struct Candidate {
 
 /// The changes with which a record has a correction, from a place on.
 #[derive(Drop)]
-pub struct Candidates {
+pub(crate) struct Candidates {
     /// The changes.
     pub found: Vec<Candidate>,
     /// The first place that was tried.

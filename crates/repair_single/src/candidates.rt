@@ -4,12 +4,14 @@ ghost use Rattle.ref_tiles.specs.declared.rulebook.Rules.{Rules};
 ghost use Rattle.repair_slips.specs.Changes.{change_at};
 ghost use Rattle.game_walk.specs.Walks.{IsWalkOf};
 ghost use Rattle.gcg_read.specs.declared.events.Event.{Event};
-ghost use Rattle.repair_single.specs.Candidates.{AreBetween, AreInOrder, AreCandidates, AddsCandidates, AddsListed, MayBeReported};
+ghost use Rattle.repair_single.specs.Candidates.{AreBetween, AreCandidates, AddsCandidates, AddsListed, MayBeReported};
 ghost use Rattle.repair_changes.specs.declared.slips.Change.{Change};
 ghost use Rattle.repair_single.specs.Listing.{changes_with};
+ghost use Rattle.repair_single.specs.Remaining.{Weighing};
 ghost use Rattle.repair_single.specs.Repairs.{IsListed};
 ghost use Rattle.repair_single.specs.Trying.{NoneFewer};
 ghost use Rattle.repair_single.specs.RackStops.{IsStop};
+ghost use Rattle.repair_single.specs.Weighers.{wrong_by};
 ghost use Rattle.repair_single.specs.declared.listed.Listed.{Listed};
 
 use crate::candidate::{Candidate, Candidates};
@@ -20,6 +22,7 @@ use crate::rooms::is_full;
 use crate::standing::game_before;
 use crate::steps::{is_over, spend};
 use crate::trying::weigh;
+use crate::weighers::Weigher;
 use crate::with_plays::slips_with;
 use game_walk::Walk;
 use gcg_read::Event;
@@ -35,6 +38,7 @@ fn push_listed(
     found: &mut Vec<Candidate>,
     rules: &Rules,
     list: &WordList,
+    weigher: &Weigher,
     walk: &Walk,
     events: &[Event],
     below: Option<usize>,
@@ -45,12 +49,13 @@ fn push_listed(
     requires walk { IsWalkOf rules.now list.now events.now walk.now }
     requires stop { IsStop rules.now list.now events.now stop.now }
     ensures { OnOk result ((plays : List Change) → IsListed rules.now events.now plays listed
-        → AddsListed rules.now list.now events.now plays below listed found.old.items found.new.items) }
+        → AddsListed (wrong_by weigher.now) rules.now list.now events.now plays below listed found.old.items found.new.items) }
 {
     let Some(cost) = weigh(
         alloc,
         rules,
         list,
+        weigher,
         walk,
         events,
         below,
@@ -71,6 +76,7 @@ fn push_slips(
     found: &mut Vec<Candidate>,
     rules: &Rules,
     list: &WordList,
+    weigher: &Weigher,
     walk: &Walk,
     events: &[Event],
     below: Option<usize>,
@@ -83,14 +89,14 @@ fn push_slips(
     requires stop { IsStop rules.now list.now events.now stop.now }
     requires within { place ≤ length events.now }
     ensures { OnOk result ((plays : List Change) → map (change_at place) slips.items ≡ changes_with rules.now events.now plays place
-        → AddsCandidates rules.now list.now events.now plays below place found.old.items found.new.items) }
+        → AddsCandidates (wrong_by weigher.now) rules.now list.now events.now plays below place found.old.items found.new.items) }
 {
     let mut index = 0;
     for slip in slips {
         let change = Change { place, slip };
         let listed = Listed { change, index };
         push_listed(
-            alloc, found, rules, list, walk, events, below, stop, listed, spent,
+            alloc, found, rules, list, weigher, walk, events, below, stop, listed, spent,
         )?;
         index += 1;
     }
@@ -122,6 +128,7 @@ fn push_candidates(
     found: &mut Vec<Candidate>,
     rules: &Rules,
     list: &WordList,
+    weigher: &Weigher,
     walk: &Walk,
     events: &[Event],
     plays: &[Change],
@@ -133,10 +140,11 @@ fn push_candidates(
     requires walk { IsWalkOf rules.now list.now events.now walk.now }
     requires stop { IsStop rules.now list.now events.now stop.now }
     requires place { place ≤ length walk.now.rows.items }
-    ensures { OnOk result (AddsCandidates rules.now list.now events.now plays.now below place found.old.items found.new.items) }
+    ensures { OnOk result (AddsCandidates (wrong_by weigher.now) rules.now list.now events.now plays.now below place found.old.items found.new.items) }
 {
     spend(spent, place);
-    if is_past_room(list, walk, events, below, place) {
+    let room = weigher.room(below);
+    if is_past_room(list, walk, events, room, place) {
         return Ok(());
     }
     law_of_slips();
@@ -145,7 +153,7 @@ fn push_candidates(
     };
     let slips = slips_with(alloc, rules, game, events, plays, place)?;
     push_slips(
-        alloc, found, rules, list, walk, events, below, stop, place, slips, spent,
+        alloc, found, rules, list, weigher, walk, events, below, stop, place, slips, spent,
     )
 }
 
@@ -156,6 +164,7 @@ fn candidates_before(
     alloc: Global,
     rules: &Rules,
     list: &WordList,
+    weigher: &Weigher,
     walk: &Walk,
     events: &[Event],
     plays: &[Change],
@@ -167,7 +176,7 @@ fn candidates_before(
     requires walk { IsWalkOf rules.now list.now events.now walk.now }
     requires stop { IsStop rules.now list.now events.now stop.now }
     requires end { end ≤ length walk.now.rows.items + 1 }
-    ensures found { IfOk result (λ c. AreBetween rules.now list.now events.now plays.now below c.from end c.found.items) }
+    ensures found { IfOk result (λ c. AreBetween (wrong_by weigher.now) rules.now list.now events.now plays.now below c.from end c.found.items) }
     ensures all { IfOk result (λ c. limit ≡ None → c.from ≡ 0) }
 {
     let mut spent = 0;
@@ -183,6 +192,7 @@ fn candidates_before(
             &mut here,
             rules,
             list,
+            weigher,
             walk,
             events,
             plays,
@@ -202,9 +212,9 @@ fn candidates_before(
 #[tactic(auto, using(crate::proofs::PlaceChanges::within_walk, crate::proofs::PlaceChanges::within_both))]
 fn count_places(walk: &Walk, stop: &Option<RackStop>) -> usize
     ensures most { result ≤ length walk.now.rows.items + 1 }
-    ensures all { (rules : Rules) (list : List (List ℕ)) (events : List Event) (plays : List Change) (below : Option ℕ) (listed : Listed)
+    ensures all { (weigh : Weighing) (rules : Rules) (list : List (List ℕ)) (events : List Event) (plays : List Change) (below : Option ℕ) (listed : Listed)
         → IsWalkOf rules list events walk.now
-        → IsStop rules list events stop.now → MayBeReported rules list events plays below listed → listed.change.place < result }
+        → IsStop rules list events stop.now → MayBeReported weigh rules list events plays below listed → listed.change.place < result }
 {
     let rows = walk.rows.len();
     match stop {
@@ -222,6 +232,7 @@ pub(crate) fn all_candidates(
     alloc: Global,
     rules: &Rules,
     list: &WordList,
+    weigher: &Weigher,
     walk: &Walk,
     events: &[Event],
     plays: &[Change],
@@ -229,40 +240,14 @@ pub(crate) fn all_candidates(
     limit: Option<u64>,
 ) -> Result<Candidates, AllocError>
     requires { IsWalkOf rules.now list.now events.now walk.now }
-    ensures found { IfOk result (λ c. AreCandidates rules.now list.now events.now plays.now below c.from c.found.items) }
+    ensures found { IfOk result (λ c. AreCandidates (wrong_by weigher.now) rules.now list.now events.now plays.now below c.from c.found.items) }
     ensures all { IfOk result (λ c. limit ≡ None → c.from ≡ 0) }
 {
     let stop = rack_stop(alloc, rules, walk, events)?;
     let end = count_places(walk, &stop);
     let mut all = candidates_before(
-        alloc, rules, list, walk, events, plays, below, &stop, end, limit,
+        alloc, rules, list, weigher, walk, events, plays, below, &stop, end, limit,
     )?;
     all.found.sort_by_key(|candidate| candidate.cost)?;
     Ok(all)
-}
-
-/// The changes of a record with which it has a correction that leaves few enough numbers and words wrong, in the order of the list. Some of those with which
-/// it makes no game are left out. Without a limit all places are tried.
-///
-/// It fails only if memory runs out.
-#[tactic(auto, using(crate::proofs::InOrder::between))]
-pub fn ordered_candidates(
-    alloc: Global,
-    rules: &Rules,
-    list: &WordList,
-    walk: &Walk,
-    events: &[Event],
-    plays: &[Change],
-    below: Option<usize>,
-    limit: Option<u64>,
-) -> Result<Candidates, AllocError>
-    requires { IsWalkOf rules.now list.now events.now walk.now }
-    ensures found { IfOk result (λ c. AreInOrder rules.now list.now events.now plays.now below c.from c.found.items) }
-    ensures all { IfOk result (λ c. limit ≡ None → c.from ≡ 0) }
-{
-    let stop = rack_stop(alloc, rules, walk, events)?;
-    let end = count_places(walk, &stop);
-    candidates_before(
-        alloc, rules, list, walk, events, plays, below, &stop, end, limit,
-    )
 }

@@ -31,7 +31,7 @@ fn correct(rules: &Rules, list: &WordList, events: &mut Events) -> bool
 /// The events of a record with a change and with their right numbers, if there are such numbers that a record can write.
 ///
 /// It fails only if memory runs out.
-pub fn corrected(
+pub(crate) fn corrected(
     alloc: Global,
     rules: &Rules,
     list: &WordList,

@@ -11,6 +11,7 @@ use crate::outcome::Outcome;
 use crate::remaining::what_remains;
 use crate::repair::Repair;
 use crate::settling::settled;
+use crate::weighers::Weigher;
 use gcg_read::{Event, Events, Players, Record};
 use lex_list::WordList;
 use ref_tiles::Rules;
@@ -31,6 +32,7 @@ pub struct Found {
 
 impl Found {
     ghost use Rattle.repair_single.specs.Reporting.{IsTried, IsTriedWith};
+    ghost use Rattle.repair_single.specs.Weighers.{wrong_by};
 
     /// Adds a change with which the record has these right events, if no repair makes the same record and some deal yields every rack.
     fn push_right(
@@ -38,12 +40,13 @@ impl Found {
         alloc: Global,
         rules: &Rules,
         list: &WordList,
+        weigher: &Weigher,
         events: &[Event],
         listed: Listed,
         right: Events,
     ) -> Result<(), AllocError>
         requires { IsWritable rules.now list.now (applied listed.change events.now) right }
-        ensures tried { OnOk result (IsTriedWith rules.now list.now events.now listed right self.old self.new) }
+        ensures tried { OnOk result (IsTriedWith (wrong_by weigher.now) rules.now list.now events.now listed right self.old self.new) }
         ensures from { OnOk result (self.new.from ≡ self.old.from) }
     {
         if is_among(self.reported.as_slice(), right.as_slice()) {
@@ -57,7 +60,15 @@ impl Found {
         match settled(alloc, rules, list, &game)? {
             Outcome::Game => {
                 let right = &game.events;
-                let remains = what_remains(alloc, rules, list, &listed.change, events, right)?;
+                let remains = what_remains(
+                    alloc,
+                    rules,
+                    list,
+                    weigher,
+                    &listed.change,
+                    events,
+                    right,
+                )?;
                 self.reported.push(Repair {
                     listed,
                     right: game.events,
@@ -79,14 +90,23 @@ impl Found {
         alloc: Global,
         rules: &Rules,
         list: &WordList,
+        weigher: &Weigher,
         events: &[Event],
         candidate: Candidate,
     ) -> Result<(), AllocError>
-        ensures tried { OnOk result (IsTried rules.now list.now events.now candidate self.old self.new) }
+        ensures tried { OnOk result (IsTried (wrong_by weigher.now) rules.now list.now events.now candidate self.old self.new) }
         ensures from { OnOk result (self.new.from ≡ self.old.from) }
     {
         match corrected(alloc, rules, list, &candidate.listed.change, events)? {
-            Some(right) => self.push_right(alloc, rules, list, events, candidate.listed, right),
+            Some(right) => self.push_right(
+                alloc,
+                rules,
+                list,
+                weigher,
+                events,
+                candidate.listed,
+                right,
+            ),
             None => Ok(()),
         }
     }

@@ -1,5 +1,5 @@
 //! Laws about repairs. Each function does nothing: its contract is the law.
-ghost use Rattle.repair_single.specs.Laws.{NoneAfterStop, NoneAfterRacks, CommonestAreTried, CommonestAreAnswered};
+ghost use Rattle.repair_single.specs.Laws.{NoneAfterStop, NoneAfterRacks, CommonestAreTried, CommonestAreAnswered, WholeIsRecord};
 
 use deal_cuts::law_of_fronts;
 
@@ -23,4 +23,10 @@ pub fn law_of_rack_stops()
 pub fn law_of_commonest()
     ensures tried { CommonestAreTried }
     ensures answered { CommonestAreAnswered }
+{}
+
+/// A record is the draft in which nothing is missing: the same numbers stay wrong with a change, unless the change is that a line is missing.
+#[tactic(auto, using(crate::proofs::Whole::whole_is_record))]
+pub fn law_of_whole_repairs()
+    ensures { WholeIsRecord }
 {}

@@ -2,7 +2,7 @@
 
 /// What is found of a record in which the rules allow every event.
 #[derive(Clone, Copy)]
-pub enum Outcome {
+pub(crate) enum Outcome {
     /// Some deal yields every rack.
     Game,
     /// No deal does.

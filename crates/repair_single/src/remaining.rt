@@ -3,16 +3,18 @@ ghost use Rattle.std.specs.Prelude.{◌≡◌, ◌<◌, ◌++◌, length, IfOk, 
 ghost use Rattle.gcg_read.specs.Numerals.{IsPoints};
 ghost use Rattle.game_corrections.specs.WrongNumbers.{wrong_score, wrong_sum, wrong_at, wrong_lines};
 ghost use Rattle.game_turns.specs.Places.{AreAllowed};
-ghost use Rattle.game_bests.specs.Unlisted.{letters_in};
+ghost use Rattle.game_turns.specs.Unlisted.{letters_in};
 ghost use Rattle.repair_changes.specs.Applied.{applied};
-ghost use Rattle.repair_single.specs.Remaining.{unlisted_words, Remain};
+ghost use Rattle.game_corrections.specs.Corrections.{AreRenumbered};
+ghost use Rattle.repair_single.specs.Remaining.{unlisted_words, wrong_with, Remain};
+ghost use Rattle.repair_single.specs.Weighers.{wrong_by};
 ghost use Rattle.repair_single.specs.Trying.{IsWritable};
 
 use crate::remains::Remains;
 use crate::sheets::on_sheet;
-use game_bests::{SpelledWord, unlisted_of};
+use crate::weighers::Weigher;
 use game_corrections::{WrongNumber, had_before, is_right_sum, known_total, take};
-use game_turns::{Machine, law_of_tallies};
+use game_turns::{Machine, SpelledWord, law_of_tallies, unlisted_of};
 use gcg_read::{Event, Events};
 use lex_list::WordList;
 use ref_tiles::Rules;
@@ -100,7 +102,7 @@ fn push_words(words: &mut Vec<SpelledWord>, mut more: Vec<SpelledWord>) -> Resul
 }
 
 /// The words of a record that stand and are not in the list, if the rules allow each of its events.
-pub fn unlisted_words(
+pub(crate) fn unlisted_words(
     alloc: Global,
     rules: &Rules,
     list: &WordList,
@@ -122,6 +124,21 @@ pub fn unlisted_words(
     Ok(words)
 }
 
+/// The numbers of a sheet that stay wrong with a change, compared with the right events.
+pub(crate) fn wrong_with(
+    alloc: Global,
+    change: &Change,
+    events: &[Event],
+    right: &Events,
+) -> Result<Vec<WrongNumber>, AllocError>
+    requires { AreRenumbered (applied change.now events.now) right.now }
+    ensures { IfOk result (λ wrong. wrong.items ≡ wrong_with change.now events.now right.now) }
+{
+    let sheet = on_sheet(alloc, change, events, right.as_slice())?;
+    let wrong = wrong_lines(alloc, sheet.as_slice(), right.as_slice())?;
+    Ok(wrong)
+}
+
 /// What stays wrong with a change, compared with the right events.
 ///
 /// It fails only if memory runs out.
@@ -129,15 +146,15 @@ pub(crate) fn what_remains(
     alloc: Global,
     rules: &Rules,
     list: &WordList,
+    weigher: &Weigher,
     change: &Change,
     events: &[Event],
     right: &Events,
 ) -> Result<Remains, AllocError>
     requires { IsWritable rules.now list.now (applied change.now events.now) right.now }
-    ensures { IfOk result (Remain rules.now list.now change.now events.now right.now) }
+    ensures { IfOk result (Remain (wrong_by weigher.now) rules.now list.now change.now events.now right.now) }
 {
-    let sheet = on_sheet(alloc, change, events, right.as_slice())?;
-    let wrong = wrong_lines(alloc, sheet.as_slice(), right.as_slice())?;
+    let wrong = weigher.wrong(alloc, change, events, right)?;
     let unlisted = unlisted_words(alloc, rules, list, right)?;
     Ok(Remains { wrong, unlisted })
 }

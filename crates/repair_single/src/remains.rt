@@ -1,9 +1,9 @@
 //! What stays wrong with a change.
 ghost use Rattle.std.specs.Prelude.{◌≡◌, ◌+◌, length};
 
-use game_bests::SpelledWord;
 use game_corrections::WrongNumber;
-use repair_changes::{Slip, weight_of};
+use game_turns::SpelledWord;
+use repair_changes::{Slip, remaining_cost, weight_of};
 
 /// What stays wrong with a change, once the numbers are corrected.
 #[derive(Drop)]
@@ -28,6 +28,6 @@ impl Remains {
     pub fn cost(&self, slip: &Slip) -> u128
         ensures { result ≡ costs (length self.now.wrong.items) (length self.now.unlisted.items) slip.now }
     {
-        5 * self.wrong.len() as u128 + 3 * self.unlisted.len() as u128 + weight_of(slip) as u128
+        remaining_cost(self.wrong.len(), self.unlisted.len()) + weight_of(slip) as u128
     }
 }

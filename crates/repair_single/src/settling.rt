@@ -32,7 +32,7 @@ fn outcome_of(alloc: Global, passed: &Passed<'_>) -> Result<Outcome, AllocError>
 /// What is found of a record in which the rules allow every event.
 ///
 /// It fails only if memory runs out.
-pub fn settled(
+pub(crate) fn settled(
     alloc: Global,
     rules: &Rules,
     list: &WordList,

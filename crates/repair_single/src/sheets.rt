@@ -46,10 +46,10 @@ fn write_line(sheet: &mut Events, place: usize, right: &[Event])
     sheet.set_total(place, total);
 }
 
-/// The events of a record with a change, with the numbers of the sheet, given the same events with the right ones.
+/// The events of a record with a change, with the numbers of the sheet, given the same events with the right ones: a missing line has its right score.
 ///
 /// It fails only if memory runs out.
-pub(crate) fn on_sheet(
+pub fn on_sheet(
     alloc: Global,
     change: &Change,
     events: &[Event],

@@ -6,6 +6,7 @@ ghost use Rattle.repair_single.specs.Remaining.{AreFewer};
 ghost use Rattle.repair_single.specs.Trying.{NoneFrom, NoneReported, StandsBefore, IsWeight};
 ghost use Rattle.repair_single.specs.FirstSteps.{AreFirstSteps};
 ghost use Rattle.repair_single.specs.RackStops.{IsStop};
+ghost use Rattle.repair_single.specs.Weighers.{wrong_by};
 
 use crate::correcting::corrected;
 use crate::counting::{after_event, after_rows};
@@ -16,9 +17,11 @@ use crate::missing::{is_missing_at, missing_place};
 use crate::nearby::fails_nearby;
 use crate::rack_stops::{RackStop, are_stopped, first_steps};
 use crate::remaining::what_remains;
+use crate::remains::Remains;
 use crate::rooms::is_full;
 use crate::standing::{game_before, start_of};
 use crate::steps::spend;
+use crate::weighers::Weigher;
 use game_turns::{Machine, law_of_tallies};
 use game_walk::Walk;
 use gcg_read::{Event, Events};
@@ -142,15 +145,29 @@ fn are_fewer(below: Option<usize>, many: u128) -> bool
     }
 }
 
+/// About how many events are gone over to look for a deal: none if so much stays wrong that none is looked for. On a draft they are counted for each change.
+fn deal_steps(
+    weigher: &Weigher,
+    below: Option<usize>,
+    remaining: &Remains,
+    events: usize,
+) -> usize {
+    match weigher {
+        Weigher::Sheet if !are_fewer(below, remaining.many()) => 0,
+        _ => events.saturating_mul(TIMES_SETTLED),
+    }
+}
+
 /// What a change costs, if the record has a correction with it that a record can write, and few enough numbers and words stay wrong. None if
 /// it has no such correction, or none that is a game.
 ///
 /// It fails only if memory runs out.
-#[tactic(auto, using(crate::proofs::Weighing::reported_by_none))]
+#[tactic(auto, using(crate::proofs::Weighing::reported_by_none, crate::proofs::Weighing::reported_within))]
 pub(crate) fn weigh(
     alloc: Global,
     rules: &Rules,
     list: &WordList,
+    weigher: &Weigher,
     walk: &Walk,
     events: &[Event],
     below: Option<usize>,
@@ -160,23 +177,24 @@ pub(crate) fn weigh(
 ) -> Result<Option<u128>, AllocError>
     requires walk { IsWalkOf rules.now list.now events.now walk.now }
     requires stop { IsStop rules.now list.now events.now stop.now }
-    ensures { IfOk result (IsWeight rules.now list.now events.now below change.now) }
+    ensures { IfOk result (IsWeight (wrong_by weigher.now) rules.now list.now events.now below change.now) }
 {
     spend(spent, nearby_steps(stop));
     if fails_nearby(alloc, rules, list, walk, events, stop, change)? {
         return Ok(None);
     }
-    if !may_be_reported(alloc, rules, list, walk, events, below, stop, change, spent)? {
+    let room = weigher.room(below);
+    if !may_be_reported(alloc, rules, list, walk, events, room, stop, change, spent)? {
         return Ok(None);
     }
     spend(spent, events.len().saturating_mul(TIMES_WEIGHED));
     let Some(right) = corrected(alloc, rules, list, change, events)? else {
         return Ok(None);
     };
-    let remaining = what_remains(alloc, rules, list, change, events, &right)?;
+    let remaining = what_remains(alloc, rules, list, weigher, change, events, &right)?;
+    spend(spent, deal_steps(weigher, below, &remaining, events.len()));
     if !are_fewer(below, remaining.many()) {
         return Ok(None);
     }
-    spend(spent, events.len().saturating_mul(TIMES_SETTLED));
     Ok(Some(remaining.cost(&change.slip)))
 }

@@ -8,7 +8,7 @@ use Rattle.gcg_read.specs.Records.{record_of}
 use Rattle.game_board.specs.Places.{place_of_line}
 use Rattle.explain_facts.specs.declared.facts.Fact.{Fact}
 use Rattle.explain_facts.specs.declared.facts.Fact.TheVariants as fact
-use Rattle.explain_events.specs.declared.explaining.Explanation.{Explanation}
+use Rattle.explain_answers.specs.declared.events.Explanation.{Explanation}
 use Rattle.gcg_drafts.specs.declared.missing.Missing.{Missing}
 use Rattle.gcg_drafts.specs.declared.missing.Missing.TheVariants as missing
 use Rattle.gcg_drafts.proofs.Own.{own_draft}

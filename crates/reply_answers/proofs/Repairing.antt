@@ -7,7 +7,7 @@ use Rattle.repair_answers.specs.Answers.{IsRepairAnswer}
 use Rattle.reply_answers.specs.declared.repaired.RepairedCase.{RepairedCase}
 use Rattle.gcg_unread.specs.Lines.{unread_of}
 use Rattle.draft_answers.specs.declared.making.DraftSheet.{DraftSheet}
-use Rattle.draft_repairs.specs.Answers.{IsDraftAnswer}
+use Rattle.repair_answers.specs.Drafts.{IsDraftAnswer}
 use Rattle.reply_answers.specs.Given.{read_of}
 use Rattle.reply_answers.specs.Repaired.{repairs_asked, Repairs, IsRepairedCase, IsRepairedDraft}
 

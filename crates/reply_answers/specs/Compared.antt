@@ -3,7 +3,7 @@ use Rattle.std.specs.Prelude.{◌≡◌, ◌||◌, ℕ, Bool, true, false, List,
 use Rattle.ref_tiles.specs.declared.rulebook.Rules.{Rules}
 use Rattle.gcg_read.specs.declared.records.Record.{Record}
 use Rattle.gcg_read.specs.Records.{record_of}
-use Rattle.gcg_names.specs.Encodings.{encoding_of}
+use Rattle.gcg_about.specs.Encodings.{encoding_of}
 use Rattle.gcg_unread.specs.Lines.{unread_of}
 use Rattle.gcg_drafts.specs.declared.drafts.Draft.{Draft}
 use Rattle.gcg_drafts.specs.declared.missing.Missing.{Missing}

@@ -11,7 +11,7 @@ use Rattle.explain_facts.specs.declared.facts.readings.ReadingFact.{ReadingFact}
 use Rattle.explain_facts.specs.declared.facts.readings.ReadingFact.TheVariants as reading_fact
 use Rattle.explain_facts.specs.declared.facts.scores.ScoreFact.{ScoreFact}
 use Rattle.explain_facts.specs.declared.facts.scores.ScoreFact.TheVariants as score_fact
-use Rattle.explain_events.specs.declared.explaining.Explanation.{Explanation}
+use Rattle.explain_answers.specs.declared.events.Explanation.{Explanation}
 use Rattle.gcg_drafts.specs.declared.missing.Missing.{Missing}
 use Rattle.gcg_drafts.specs.declared.missing.Missing.TheVariants as missing
 use Rattle.draft_answers.specs.Filling.{said}

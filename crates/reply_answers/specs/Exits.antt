@@ -2,14 +2,16 @@
 use Rattle.std.specs.Prelude.{ℕ, Bool, true, false, Result, Ok, Err, Option, Some, None}
 use Rattle.engine_stages.specs.declared.decisions.Decision.{Decision}
 use Rattle.engine_stages.specs.declared.verdicts.Verdict.TheVariants as verdict
-use Rattle.cli_exits.specs.Audits.{audit_status}
-use Rattle.cli_exits.specs.Cases.{explain_exit}
-use Rattle.cli_exits.specs.Exits.{status_of, exit_of}
-use Rattle.cli_exits.specs.declared.exits.Exit.TheVariants as exit
+use Rattle.game_exits.specs.Audits.{audit_status}
+use Rattle.game_exits.specs.Cases.{explain_exit}
+use Rattle.game_exits.specs.Exits.{status_of, exit_of}
+use Rattle.game_exits.specs.declared.exits.Exit.{Exit}
+use Rattle.game_exits.specs.declared.exits.Exit.TheVariants as exit
 use Rattle.game_answers.specs.declared.boards.ShownBoard.{ShownBoard}
 use Rattle.game_answers.specs.declared.tops.FoundPlays.{FoundPlays}
 use Rattle.game_answers.specs.Tops.{verdict_of}
-use Rattle.compare_answers.specs.Exits.{exit_of_agreement}
+use Rattle.compare_answers.specs.declared.agreements.Agreement.{Agreement}
+use Rattle.compare_answers.specs.declared.agreements.Agreement.TheVariants as agreement
 use Rattle.draft_answers.specs.declared.faults.DraftFault.{DraftFault}
 use Rattle.draft_answers.specs.declared.filled.FilledDraft.{FilledDraft}
 use Rattle.draft_answers.specs.declared.next.DraftNext.{DraftNext}
@@ -42,6 +44,12 @@ status_by false = status_of exit.Illegal
 abbrev pub status_of_ruled : Option Ruled → ℕ
 status_of_ruled (Some ruled) = status_by ruled.ruling.acceptable
 status_of_ruled None = status_of exit.BadInput
+
+-- how the program ends after two sheets are compared that have something to compare
+abbrev pub exit_of_agreement : Agreement → Exit
+exit_of_agreement agreement.Agree = exit.Fine
+exit_of_agreement agreement.Differ = exit.Illegal
+exit_of_agreement agreement.Unsettled = exit.Unsettled
 
 -- after two sheets are compared: 3 if one of them has nothing to compare
 abbrev pub status_of_compared : SheetsFound → ℕ

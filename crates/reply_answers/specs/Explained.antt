@@ -14,7 +14,7 @@ use Rattle.game_case.specs.declared.explains.Case.{Case}
 use Rattle.game_case.specs.declared.findings.Finding.{Finding}
 use Rattle.game_case.specs.declared.findings.Finding.TheVariants as finding
 use Rattle.game_case.specs.Explaining.{IsCaseOf}
-use Rattle.explain_events.specs.declared.explaining.Explanation.{Explanation}
+use Rattle.explain_answers.specs.declared.events.Explanation.{Explanation}
 use Rattle.explain_answers.specs.Explaining.{IsExplanation}
 use Rattle.repair_single.specs.declared.repair.Repair.{Repair}
 use Rattle.repair_answers.specs.Amounts.{IsAmount}

@@ -3,7 +3,7 @@ use Rattle.std.specs.Prelude.{◌≡◌, ℕ, Bool, true, false, List, Option, S
 use Rattle.ref_tiles.specs.declared.rulebook.Rules.{Rules}
 use Rattle.gcg_read.specs.declared.records.Record.{Record}
 use Rattle.gcg_read.specs.Records.{record_of}
-use Rattle.explain_events.specs.declared.explaining.Explanation.{Explanation}
+use Rattle.explain_answers.specs.declared.events.Explanation.{Explanation}
 use Rattle.reply_answers.specs.declared.compared.SheetsFound.{SheetsFound}
 use Rattle.reply_answers.specs.declared.explained.ExplainedCase.{ExplainedCase}
 use Rattle.reply_answers.specs.Compared.{IsComparedOf}

@@ -5,7 +5,7 @@ ghost use Rattle.std.specs.Option.{option_copied};
 ghost use Rattle.draft_answers.specs.Filling.{said};
 ghost use Rattle.reply_answers.specs.DraftFacts.{reports_missing_line, reports_total, reports_place, reports_tile, rests_on, is_reported, lack_at, lack_of, IsWithout, IsExplanationWithout};
 
-use explain_events::Explanation;
+use explain_answers::Explanation;
 use explain_facts::{Fact, OrderFact, ReadingFact, ScoreFact};
 use game_board::place_of_line;
 use gcg_drafts::Missing;

@@ -1,17 +1,17 @@
 //! How the program ends after a reply.
 ghost use Rattle.std.specs.Prelude.{◌≡◌};
-ghost use Rattle.cli_exits.specs.Exits.{exit_of, status_of};
-ghost use Rattle.cli_exits.specs.Audits.{audit_status};
-ghost use Rattle.reply_answers.specs.Exits.{status_of_refused, status_of_board, status_of_plays, status_of_ruled, status_of_compared, status_of_filled, status_by_stop, status_of_next, status_of_reply};
+ghost use Rattle.game_exits.specs.Exits.{exit_of, status_of};
+ghost use Rattle.game_exits.specs.Audits.{audit_status};
+ghost use Rattle.reply_answers.specs.Exits.{exit_of_agreement, status_of_refused, status_of_board, status_of_plays, status_of_ruled, status_of_compared, status_of_filled, status_by_stop, status_of_next, status_of_reply};
 
 use crate::compared::SheetsFound;
 use crate::replies::Reply;
 use crate::words::Ruled;
-use cli_exits::{Exit, exit_of_audit, exit_of_case};
-use compare_answers::exit_of_agreement;
+use compare_answers::Agreement;
 use draft_answers::{DraftFault, DraftNext, FilledDraft};
 use engine_stages::{Decision, Verdict};
 use game_answers::{FoundPlays, JudgedGame, ShownBoard};
+use game_exits::{Exit, exit_of_audit, exit_of_case};
 use game_walk::Refusal;
 use sheet_audit::AuditAnswer;
 
@@ -64,6 +64,18 @@ fn exit_of_ruled(ruled: &Option<Ruled>) -> Exit
         None => Exit::BadInput,
         Some(ruled) if ruled.ruling.acceptable => Exit::Fine,
         Some(_) => Exit::Illegal,
+    }
+}
+
+/// How it ends after two sheets are compared that have something to compare: 0 if they agree, 1 if they do not, and 2 if no choice of their lines is known
+/// to make a game but one may.
+fn exit_of_agreement(agreement: Agreement) -> Exit
+    ensures { result ≡ exit_of_agreement agreement }
+{
+    match agreement {
+        Agreement::Agree => Exit::Fine,
+        Agreement::Differ => Exit::Illegal,
+        Agreement::Unsettled => Exit::Unsettled,
     }
 }
 

@@ -7,8 +7,7 @@ ghost use Rattle.reply_answers.specs.Given.{FailsForMemoryAlone, read_of};
 
 use crate::games::{case_in, unread_in};
 use engine_stages::{GameFault, RunFault};
-use explain_answers::explain;
-use explain_events::Explanation;
+use explain_answers::{Explanation, explain};
 use game_case::{Audit, Case, Entry, Finding};
 use game_turns::RuleFault;
 use gcg_unread::UnreadLine;

@@ -16,14 +16,14 @@ use crate::games::{case_in, unread_in};
 use crate::read_sheets::{ShownSheet, shown_sheet};
 use crate::repaired::{RepairedCase, repaired, repairs_asked};
 use draft_answers::{DraftFault, DraftSheet, board_sheet, draft_sheet, has_missing};
-use draft_repairs::answer_draft;
 use engine_stages::RunFault;
-use explain_events::Explanation;
+use explain_answers::Explanation;
 use game_case::{Audit, Case, Entry};
 use gcg_drafts::Missing;
 use gcg_read::ReadFault;
 use lex_check::Checked;
 use ref_tiles::Rules;
+use repair_answers::answer_draft;
 use std::alloc::{AllocError, Global};
 
 /// The sheet of a draft with what explains it or one of its lines.

@@ -10,9 +10,8 @@ use Rattle.engine_stages.specs.declared.faults.RunFault.TheVariants as run
 use Rattle.engine_stages.specs.declared.verdicts.Verdict.{Verdict}
 use Rattle.engine_stages.specs.Runs.{Gives, HasStopped, StopsReading, outcomes}
 use Rattle.engine_stages.specs.Sources.{Source, AllHaveWorked}
-use Rattle.cli_exits.specs.Exits.{status_of}
-use Rattle.reply_answers.specs.declared.replies.Reply.{Reply}
-use Rattle.reply_answers.specs.declared.printed.Printed.{Printed}
+use Rattle.game_exits.specs.Exits.{status_of}
+use Rattle.reply_calls.specs.declared.printed.Printed.{Printed}
 use Rattle.reply_calls.specs.declared.ended.Ended.{Ended}
 use Rattle.reply_calls.specs.Endings.{status_of_found, refused_of}
 use Rattle.reply_calls.specs.Calls.{StopsOutput, StopsShowing, IsWriting, StopsWriting, GivesUpBy, IsReplying}
@@ -27,11 +26,11 @@ pub sending_stopped : (Holds : List ℕ → Type 0) (HasFailed : Type 0) (printe
 sending_stopped Holds HasFailed printed out_old out_new kept stopped front = inr (kept, stopped, front)
 
 -- it is written
-pub written : (Shows : Result Reply Decision → Printed → Type 0) (Holds : List ℕ → Type 0) (HasFailed : Type 0) (found : Result Reply Decision) (out_old out_new : Device) (printed : Printed) (ended : Ended)
+pub written : {A : Type 0} (Shows : Result A Decision → Printed → Type 0) (ends : A → ℕ) (Holds : List ℕ → Type 0) (HasFailed : Type 0) (found : Result A Decision) (out_old out_new : Device) (printed : Printed) (ended : Ended)
     → Shows found printed → Appends out_old.bytes out_new.bytes printed.report.items → IfSome printed.kept (λ text. Holds text.items)
-    → status_of ended.exit ≡ status_of_found found → ended.refused ≡ refused_of found → HasWorked out_old out_new
-    → IsWriting Shows Holds HasFailed found out_old out_new (Ok ended)
-written Shows Holds HasFailed found out_old out_new printed ended shown sent kept status refused worked =
+    → status_of ended.exit ≡ status_of_found ends found → ended.refused ≡ refused_of found → HasWorked out_old out_new
+    → IsWriting Shows ends Holds HasFailed found out_old out_new (Ok ended)
+written Shows ends Holds HasFailed found out_old out_new printed ended shown sent kept status refused worked =
     record {
       written = record { printed = printed; shown = shown; sent = sent; kept = kept; status = status; refused = refused };
       worked = worked;
@@ -39,37 +38,37 @@ written Shows Holds HasFailed found out_old out_new printed ended shown sent kep
     }
 
 -- an output failed, or memory was refused
-pub output_failed : (Shows : Result Reply Decision → Printed → Type 0) (Holds : List ℕ → Type 0) (HasFailed : Type 0) (found : Result Reply Decision) (out_old out_new : Device) (printed : Printed) (fault : RunFault)
-    → fault ≡ run.WriteFailed → Shows found printed → StopsOutput Holds HasFailed printed out_old out_new → IsWriting Shows Holds HasFailed found out_old out_new (Err fault)
-output_failed Shows Holds HasFailed found out_old out_new printed fault is shown stops =
+pub output_failed : {A : Type 0} (Shows : Result A Decision → Printed → Type 0) (ends : A → ℕ) (Holds : List ℕ → Type 0) (HasFailed : Type 0) (found : Result A Decision) (out_old out_new : Device) (printed : Printed) (fault : RunFault)
+    → fault ≡ run.WriteFailed → Shows found printed → StopsOutput Holds HasFailed printed out_old out_new → IsWriting Shows ends Holds HasFailed found out_old out_new (Err fault)
+output_failed Shows ends Holds HasFailed found out_old out_new printed fault is shown stops =
     let showing : StopsShowing Shows Holds HasFailed found out_old out_new = record { printed = printed; shown = shown; stops = stops } in
     record { written = tt; worked = tt; gave_up = subst (StopsWriting Shows Holds HasFailed found out_old out_new) (sym is) showing }
 
-pub memory_refused : (Shows : Result Reply Decision → Printed → Type 0) (Holds : List ℕ → Type 0) (HasFailed : Type 0) (found : Result Reply Decision) (out : Device)
-    → IsWriting Shows Holds HasFailed found out out (Err run.NoMemory)
-memory_refused Shows Holds HasFailed found out = record { written = tt; worked = tt; gave_up = refl }
+pub memory_refused : {A : Type 0} (Shows : Result A Decision → Printed → Type 0) (ends : A → ℕ) (Holds : List ℕ → Type 0) (HasFailed : Type 0) (found : Result A Decision) (out : Device)
+    → IsWriting Shows ends Holds HasFailed found out out (Err run.NoMemory)
+memory_refused Shows ends Holds HasFailed found out = record { written = tt; worked = tt; gave_up = refl }
 
 -- ---- after the inputs are read
 
-gives_up_after : (sources : List Source) (IsFound : Result Reply Decision → List (List ℕ) → Verdict → List ℕ → Type 0) (Shows : Result Reply Decision → Printed → Type 0) (Holds : List ℕ → Type 0) (HasFailed : Type 0)
-    (found : Result Reply Decision) (out_old out_new : Device) (fault : RunFault) → Gives outcomes sources IsFound (Ok found) → StopsWriting Shows Holds HasFailed found out_old out_new fault
+gives_up_after : {A : Type 0} (sources : List Source) (IsFound : Result A Decision → List (List ℕ) → Verdict → List ℕ → Type 0) (Shows : Result A Decision → Printed → Type 0) (Holds : List ℕ → Type 0) (HasFailed : Type 0)
+    (found : Result A Decision) (out_old out_new : Device) (fault : RunFault) → Gives outcomes sources IsFound (Ok found) → StopsWriting Shows Holds HasFailed found out_old out_new fault
     → GivesUpBy sources IsFound Shows Holds HasFailed out_old out_new fault
 gives_up_after sources IsFound Shows Holds HasFailed found out_old out_new run.ReadFailed gives stops = absurd stops
 gives_up_after sources IsFound Shows Holds HasFailed found out_old out_new run.WriteFailed gives stops =
     record { worked = gives.worked; found = found; is_found = gives.answered; stops = stops }
 gives_up_after sources IsFound Shows Holds HasFailed found out_old out_new run.NoMemory gives stops = (gives.worked, stops)
 
-pub replied : (sources : List Source) (IsFound : Result Reply Decision → List (List ℕ) → Verdict → List ℕ → Type 0) (Shows : Result Reply Decision → Printed → Type 0) (Holds : List ℕ → Type 0) (HasFailed : Type 0)
-    (found : Result Reply Decision) (out_old out_new : Device) (result : Result Ended RunFault) → Gives outcomes sources IsFound (Ok found) → IsWriting Shows Holds HasFailed found out_old out_new result
-    → IsReplying sources IsFound Shows Holds HasFailed out_old out_new result
-replied sources IsFound Shows Holds HasFailed found out_old out_new (Ok ended) gives writing =
+pub replied : {A : Type 0} (sources : List Source) (IsFound : Result A Decision → List (List ℕ) → Verdict → List ℕ → Type 0) (Shows : Result A Decision → Printed → Type 0) (ends : A → ℕ) (Holds : List ℕ → Type 0) (HasFailed : Type 0)
+    (found : Result A Decision) (out_old out_new : Device) (result : Result Ended RunFault) → Gives outcomes sources IsFound (Ok found) → IsWriting Shows ends Holds HasFailed found out_old out_new result
+    → IsReplying sources IsFound Shows ends Holds HasFailed out_old out_new result
+replied sources IsFound Shows ends Holds HasFailed found out_old out_new (Ok ended) gives writing =
     record {
       replied = record { found = found; is_found = gives.answered; written = writing.written };
       worked = (gives.worked, writing.worked);
       gave_up = tt;
       within = gives.within;
     }
-replied sources IsFound Shows Holds HasFailed found out_old out_new (Err fault) gives writing =
+replied sources IsFound Shows ends Holds HasFailed found out_old out_new (Err fault) gives writing =
     record {
       replied = tt;
       worked = tt;
@@ -78,13 +77,13 @@ replied sources IsFound Shows Holds HasFailed found out_old out_new (Err fault) 
     }
 
 -- or before
-stops_before : (sources : List Source) (IsFound : Result Reply Decision → List (List ℕ) → Verdict → List ℕ → Type 0) (Shows : Result Reply Decision → Printed → Type 0) (Holds : List ℕ → Type 0) (HasFailed : Type 0)
+stops_before : {A : Type 0} (sources : List Source) (IsFound : Result A Decision → List (List ℕ) → Verdict → List ℕ → Type 0) (Shows : Result A Decision → Printed → Type 0) (Holds : List ℕ → Type 0) (HasFailed : Type 0)
     (out : Device) (fault : RunFault) → StopsReading sources fault → GivesUpBy sources IsFound Shows Holds HasFailed out out fault
 stops_before sources IsFound Shows Holds HasFailed out run.ReadFailed stops = (stops, refl)
 stops_before sources IsFound Shows Holds HasFailed out run.WriteFailed stops = absurd stops
 stops_before sources IsFound Shows Holds HasFailed out run.NoMemory stops = (stops, refl)
 
-pub stopped : (sources : List Source) (IsFound : Result Reply Decision → List (List ℕ) → Verdict → List ℕ → Type 0) (Shows : Result Reply Decision → Printed → Type 0) (Holds : List ℕ → Type 0) (HasFailed : Type 0)
-    (out : Device) (fault : RunFault) → Gives outcomes sources IsFound (Err fault) → IsReplying sources IsFound Shows Holds HasFailed out out (Err fault)
-stopped sources IsFound Shows Holds HasFailed out fault gives =
+pub stopped : {A : Type 0} (sources : List Source) (IsFound : Result A Decision → List (List ℕ) → Verdict → List ℕ → Type 0) (Shows : Result A Decision → Printed → Type 0) (ends : A → ℕ) (Holds : List ℕ → Type 0) (HasFailed : Type 0)
+    (out : Device) (fault : RunFault) → Gives outcomes sources IsFound (Err fault) → IsReplying sources IsFound Shows ends Holds HasFailed out out (Err fault)
+stopped sources IsFound Shows ends Holds HasFailed out fault gives =
     record { replied = tt; worked = tt; gave_up = stops_before sources IsFound Shows Holds HasFailed out fault gives.gave_up; within = gives.within }

@@ -1,4 +1,5 @@
 pub mod Endings
+pub mod Sheets
 pub mod Found
 pub mod Calls
 pub mod laws

@@ -1,11 +1,11 @@
 //! How a call ended.
 ghost use Rattle.std.specs.Prelude.{◌≡◌};
-ghost use Rattle.cli_exits.specs.Exits.{status_of};
+ghost use Rattle.game_exits.specs.Exits.{status_of};
 ghost use Rattle.reply_calls.specs.Endings.{status_of_found, refused_of};
 
-use cli_exits::Exit;
+use crate::asking::Rendering;
 use engine_stages::Decision;
-use reply_answers::{Reply, exit_of_reply};
+use game_exits::Exit;
 
 /// How a call ended.
 #[derive(Drop)]
@@ -17,17 +17,17 @@ pub struct Ended {
 }
 
 /// How the program ends after what was found.
-pub fn exit_of_found(found: &Result<Reply, Decision>) -> Exit
-    ensures { status_of result ≡ status_of_found found.now }
+pub fn exit_of_found<A, T: Rendering<A>>(rendering: &T, found: &Result<A, Decision>) -> Exit
+    ensures { status_of result ≡ status_of_found T.status found.now }
 {
     match found {
-        Ok(reply) => exit_of_reply(reply),
+        Ok(reply) => rendering.exit(reply),
         Err(decision) => Exit::from(decision.verdict),
     }
 }
 
 /// The decision that an input is bad, if that was found.
-pub fn refused_of(found: Result<Reply, Decision>) -> Option<Decision>
+pub fn refused_of<A: Drop>(found: Result<A, Decision>) -> Option<Decision>
     ensures { result ≡ refused_of found }
 {
     match found {

@@ -7,12 +7,12 @@ ghost use Rattle.engine_stages.specs.declared.faults.RunFault.TheVariants.{Write
 ghost use Rattle.engine_stages.specs.Runs.{HasStopped};
 ghost use Rattle.reply_calls.specs.Calls.{IsWriting, StopsOutput};
 
+use crate::asking::Rendering;
 use crate::ended::{Ended, exit_of_found, refused_of};
 use crate::outlets::Outlet;
-use crate::renderings::Rendering;
+use crate::printed::Printed;
 use engine_stages::{Decision, RunFault};
 use io_devices::{Output, write_whole};
-use reply_answers::{Printed, Reply};
 use std::alloc::Global;
 
 /// Keeps a text, if there is one.
@@ -68,15 +68,15 @@ fn write_printed<K: Outlet, O: Output>(
 
 /// Writes what was found: first the text to be kept, if there is one, then the report.
 #[tactic(auto, using(crate::proofs::Replying::written, crate::proofs::Replying::output_failed, crate::proofs::Replying::memory_refused))]
-pub fn write_found<T: Rendering, K: Outlet, O: Output>(
+pub fn write_found<A: Drop, T: Rendering<A>, K: Outlet, O: Output>(
     alloc: Global,
     rendering: &T,
-    found: Result<Reply, Decision>,
+    found: Result<A, Decision>,
     kept: &mut K,
     out: &mut O,
 ) -> Result<Ended, RunFault>
     requires { HasRoom (O.device out.old) }
-    ensures { IsWriting (T.shows rendering.now) (K.holds kept.new) (K.has_failed kept.new) found (O.device out.old) (O.device out.new) result }
+    ensures { IsWriting (T.shows rendering.now) T.status (K.holds kept.new) (K.has_failed kept.new) found (O.device out.old) (O.device out.new) result }
 {
     let printed = match rendering.render(alloc, &found) {
         Ok(printed) => printed,
@@ -84,7 +84,7 @@ pub fn write_found<T: Rendering, K: Outlet, O: Output>(
     };
     match write_printed(&printed, kept, out) {
         Ok(()) => {
-            let exit = exit_of_found(&found);
+            let exit = exit_of_found(rendering, &found);
             Ok(Ended {
                 exit,
                 refused: refused_of(found),

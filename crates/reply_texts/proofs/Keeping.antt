@@ -1,8 +1,8 @@
 -- The repaired sheet that is kept, if it is requested.
 use Rattle.std.proofs.Common.{◌≡◌, inl, inr, ℕ, true, List, Option, Some, None, Result, Ok, Err, IfOk, sym, subst}
 use Rattle.std.specs.Prelude.{MatchOption}
-use Rattle.repair_chosen.specs.Kept.{IsRepairedText, IsNoRepairedText}
-use Rattle.reply_answers.specs.declared.printed.Printed.{Printed}
+use Rattle.repair_rewrites.specs.Kept.{IsRepairedText, IsNoRepairedText}
+use Rattle.reply_calls.specs.declared.printed.Printed.{Printed}
 use Rattle.reply_answers.specs.declared.repaired.RepairedCase.{RepairedCase}
 use Rattle.reply_texts.specs.Kept.{has_nothing, IsSheetKept, IsNoSheetKept}
 

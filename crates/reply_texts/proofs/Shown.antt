@@ -1,7 +1,7 @@
 -- A report for programs.
 use Rattle.std.proofs.Common.{◌≡◌, Result, Ok, Err, IfOk, Option, subst}
 use Rattle.json.specs.Json.{Json}
-use Rattle.reply_answers.specs.declared.printed.Printed.{Printed}
+use Rattle.reply_calls.specs.declared.printed.Printed.{Printed}
 use Rattle.reply_answers.specs.declared.replies.Reply.{Reply}
 use Rattle.reply_texts.specs.declared.bodies.Body.{Body}
 use Rattle.reply_texts.specs.Bodies.{object_in, text_in}

@@ -11,7 +11,7 @@ use Rattle.game_case.specs.declared.findings.Finding.TheVariants as finding
 use Rattle.sheet_audit.specs.declared.answers.AuditAnswer.{AuditAnswer}
 use Rattle.sheet_audit.specs.Standing.{is_written}
 use Rattle.compare_answers.specs.declared.found.WhyNotMerged.{WhyNotMerged}
-use Rattle.repair_chosen.specs.Kept.{IsRepairedText, IsNoRepairedText}
+use Rattle.repair_rewrites.specs.Kept.{IsRepairedText, IsNoRepairedText}
 use Rattle.reply_answers.specs.declared.audited.AuditedSheet.{AuditedSheet}
 use Rattle.reply_answers.specs.declared.compared.SheetsFound.{SheetsFound}
 use Rattle.reply_answers.specs.declared.compared.SheetsFound.TheVariants as sheets
@@ -64,7 +64,7 @@ IsMergedText (sheets.Both both) text = IsNormalForm both.answer.merged text
 IsMergedText (sheets.FirstBad why) text = ⊥
 IsMergedText (sheets.SecondBad why) text = ⊥
 
--- ---- the repaired sheet, which `repair_chosen` defines
+-- ---- the repaired sheet, which `repair_rewrites` defines
 
 -- whether a text is a record without an event
 abbrev pub has_nothing : Result Entry ReadFault → Bool

@@ -3,3 +3,4 @@ pub mod Kept
 pub mod Words
 pub mod Bodies
 pub mod Objects
+pub mod Cases

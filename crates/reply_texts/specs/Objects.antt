@@ -13,7 +13,7 @@ use Rattle.game_answers.specs.declared.boards.ShownBoard.{ShownBoard}
 use Rattle.game_answers.specs.declared.games.JudgedGame.{JudgedGame}
 use Rattle.game_answers.specs.declared.tops.FoundPlays.{FoundPlays}
 use Rattle.game_case.specs.declared.entries.Entry.{Entry}
-use Rattle.explain_events.specs.declared.explaining.Explanation.{Explanation}
+use Rattle.explain_answers.specs.declared.events.Explanation.{Explanation}
 use Rattle.sheet_audit.specs.declared.answers.AuditAnswer.{AuditAnswer}
 use Rattle.sheet_audit.specs.Standing.{is_written}
 use Rattle.repair_answers.specs.declared.answers.RepairAnswer.{RepairAnswer}
@@ -28,7 +28,7 @@ use Rattle.reply_answers.specs.declared.compared.BadSheet.{BadSheet}
 use Rattle.reply_answers.specs.declared.compared.BadSheet.TheVariants as bad
 use Rattle.reply_answers.specs.declared.compared.SheetsFound.{SheetsFound}
 use Rattle.reply_answers.specs.declared.compared.SheetsFound.TheVariants as sheets
-use Rattle.reply_answers.specs.declared.printed.Printed.{Printed}
+use Rattle.reply_calls.specs.declared.printed.Printed.{Printed}
 use Rattle.reply_answers.specs.declared.repaired.RepairedCase.{RepairedCase}
 use Rattle.reply_answers.specs.declared.replies.Reply.{Reply}
 use Rattle.reply_answers.specs.declared.replies.Reply.TheVariants as reply
@@ -45,7 +45,7 @@ use Rattle.draft_json.specs.Nexts.{next_object}
 use Rattle.repair_json.specs.Answers.{answer_object}
 use Rattle.repair_json.specs.BadRecords.{bad_object}
 use Rattle.compare_json.specs.Answers.{comparison_object}
-use Rattle.explain_case_json.specs.Cases.{case_object}
+use Rattle.reply_texts.specs.Cases.{case_object}
 use Rattle.reply_texts.specs.Bodies.{bytes_of}
 use Rattle.reply_texts.specs.Kept.{has_event, has_merged, IsCorrectedText, IsNormalForm, IsSheetKept, IsNoSheetKept}
 

@@ -1,6 +1,6 @@
 -- What is written of a reply in words.
 use Rattle.std.specs.Prelude.{◌≡◌, ⊤, is_some, IfSome, MatchOption, None}
-use Rattle.reply_answers.specs.declared.printed.Printed.{Printed}
+use Rattle.reply_calls.specs.declared.printed.Printed.{Printed}
 use Rattle.reply_answers.specs.declared.replies.Reply.{Reply}
 use Rattle.reply_answers.specs.declared.replies.Reply.TheVariants as reply
 use Rattle.reply_texts.specs.Rulings.{ruled_line}

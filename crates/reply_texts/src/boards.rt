@@ -6,7 +6,8 @@ use gcg_read::Seat;
 use gcg_write::tiles_text;
 use ref_play::PlayFault;
 use ref_tiles::Counts;
-use reply_answers::{Printed, ShownSheet};
+use reply_answers::ShownSheet;
+use reply_calls::Printed;
 use std::alloc::{AllocError, Global};
 use text_decimals::push_number;
 

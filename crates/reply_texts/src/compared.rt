@@ -18,7 +18,8 @@ use engine_stages::bad_record_line;
 use gcg_write::write;
 use json_base::{bad_record_tree, no_game_tree};
 use json_trees::Tree;
-use reply_answers::{BadSheet, BothCompared, Printed, SheetsFound};
+use reply_answers::{BadSheet, BothCompared, SheetsFound};
+use reply_calls::Printed;
 use std::alloc::{AllocError, Global};
 
 /// What is found of two sheets; and whether the merged record is written, if it is requested. If the first sheet states its encoding, names are UTF-8.

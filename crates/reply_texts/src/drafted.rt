@@ -14,7 +14,8 @@ use draft_lines::{push_draft_fault, push_fill, push_next};
 use game_case::Finding;
 use gcg_unread::UnreadLine;
 use json_trees::Tree;
-use reply_answers::{FilledSheet, Printed};
+use reply_answers::FilledSheet;
+use reply_calls::Printed;
 use std::alloc::{AllocError, Global};
 
 /// The first fault of a draft, in words.

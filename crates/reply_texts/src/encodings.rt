@@ -1,6 +1,6 @@
 //! The encoding of what is said of a sheet.
 
-use gcg_names::Encoding;
+use gcg_about::Encoding;
 use std::alloc::{AllocError, Global};
 
 /// What is said of a sheet of this encoding, as UTF-8 if the sheet states that it is ISO-8859-1. Otherwise the bytes stay as they are.

@@ -4,10 +4,10 @@ use crate::cases::{NO_GAME, has_no_event};
 use crate::encodings::in_utf8;
 use explain_lines::push_explanation;
 use game_case::Entry;
-use gcg_names::Encoding;
-use repair_lines::push_likely;
-use repair_words::push_amount;
-use reply_answers::{ExplainedCase, Printed};
+use gcg_about::Encoding;
+use repair_lines::{push_amount, push_likely};
+use reply_answers::ExplainedCase;
+use reply_calls::Printed;
 use sheet_audit::push_last_line;
 use std::alloc::{AllocError, Global};
 

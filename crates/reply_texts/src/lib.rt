@@ -7,6 +7,7 @@
 mod audits;
 mod boards;
 mod bodies;
+mod case_objects;
 mod cases;
 mod compared;
 mod drafted;

@@ -3,21 +3,21 @@ ghost use Rattle.std.specs.Prelude.{◌≡◌, is_some, IfOk};
 ghost use Rattle.std.specs.Option.{option_copied};
 ghost use Rattle.json_trees.specs.Trees.{view};
 ghost use Rattle.gcg_unread.specs.Lines.{unread_of};
-ghost use Rattle.explain_case_json.specs.Cases.{case_object};
+ghost use Rattle.reply_texts.specs.Cases.{case_object};
 ghost use Rattle.reply_texts.specs.Bodies.{object_in, text_in};
 ghost use Rattle.reply_texts.specs.Objects.{annotated_object, has_sheet, paged_object, reported_of, IsAnnotatedText};
 
 use crate::bodies::Body;
+use crate::case_objects::case_tree;
 use crate::cases::{NO_GAME, has_event, has_no_event};
-use explain_case_json::case_tree;
-use explain_events::Explanation;
+use explain_answers::Explanation;
 use game_case::{Case, case_line};
 use gcg_unread::unread_lines;
 use json_trees::Tree;
 use page_answers::{PageContents, PagedCase};
 use page_words::page_text;
 use repair_answers::Likely;
-use reply_answers::Printed;
+use reply_calls::Printed;
 use sheet_notes::{AnnotatedSheet, annotated_text};
 use std::alloc::{AllocError, Global};
 

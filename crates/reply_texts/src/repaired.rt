@@ -9,16 +9,17 @@ use crate::bodies::Body;
 use crate::cases::{NO_GAME, has_no_event, is_with_event};
 use crate::encodings::in_utf8;
 use game_case::Entry;
+use gcg_about::Encoding;
 use gcg_drafts::Missing;
-use gcg_names::Encoding;
 use gcg_unread::UnreadLine;
 use json_base::no_game_tree;
 use json_trees::Tree;
 use repair_answers::RepairAnswer;
-use repair_chosen::sheet_to_keep;
 use repair_json::{answer_tree, bad_tree};
 use repair_lines::{push_choice, push_repairs};
-use reply_answers::{Printed, RepairedCase};
+use repair_rewrites::sheet_to_keep;
+use reply_answers::RepairedCase;
+use reply_calls::Printed;
 use std::alloc::{AllocError, Global};
 
 /// What is said of a repaired sheet of a record without an event.

@@ -6,7 +6,8 @@ ghost use Rattle.reply_texts.specs.Rulings.{ruling_line, bad_word_line, ruled_li
 
 use json_trees::Tree;
 use lex_rulings::AskedWord;
-use reply_answers::{Printed, Ruled};
+use reply_answers::Ruled;
+use reply_calls::Printed;
 use sheet_json::{no_word_tree, ruling_tree};
 use std::alloc::{AllocError, Global};
 

@@ -11,7 +11,8 @@ use crate::made::{annotated_words, paged_words};
 use crate::objects::in_object;
 use crate::repaired::repaired_words;
 use crate::ruled::ruled_words;
-use reply_answers::{Printed, Reply};
+use reply_answers::Reply;
+use reply_calls::Printed;
 use std::alloc::{AllocError, Global};
 
 /// What is written of a reply in words. A reply that the program gives only as an object is one.

@@ -17,8 +17,8 @@ use Rattle.game_case.specs.declared.entries.Entry.{Entry}
 use Rattle.game_case.specs.declared.findings.Finding.{Finding}
 use Rattle.game_case.specs.declared.findings.Finding.TheVariants as finding
 use Rattle.game_case.specs.Explaining.{IsCaseOf}
-use Rattle.explain_openings.specs.Openings.{place_of_fault}
-use Rattle.explain_events.specs.declared.explaining.Explanation.{Explanation}
+use Rattle.explain_answers.specs.Openings.{place_of_fault}
+use Rattle.explain_answers.specs.declared.events.Explanation.{Explanation}
 use Rattle.explain_answers.specs.Explaining.{IsExplanation}
 use Rattle.sheet_notes.specs.declared.sheets.EventNote.{EventNote}
 use Rattle.sheet_notes.specs.declared.sheets.AnnotatedSheet.{AnnotatedSheet}

@@ -1,20 +1,20 @@
 //! The note of an event, in one line.
 
 use crate::sheets::EventNote;
+use explain_parts::say;
 use game_answers::ScoredPlay;
-use game_bests::{BestPlay, SpelledWord, TurnBest};
+use game_bests::{BestPlay, TurnBest};
+use game_turns::SpelledWord;
 use gcg_write::play_text;
 use ref_play::Notation;
 use std::alloc::AllocError;
-use text_decimals::push_number;
 
 /// Appends a play and its score.
 fn push_play(note: &mut Vec<u8>, written: &Notation, score: i32) -> Result<(), AllocError> {
     if play_text(written.at, written.dir, written.word.as_slice(), note).is_err() {
         return Err(AllocError);
     }
-    note.push(b' ')?;
-    push_number(note, score)
+    say!(note; " ", score)
 }
 
 /// Appends how many points more than its turn a best play would have given, or that it would have given as many.
@@ -23,27 +23,25 @@ fn push_more(note: &mut Vec<u8>, more: i64) -> Result<(), AllocError> {
         return Ok(());
     }
     if more == 0 {
-        return note.extend_from_slice(b", equal");
+        return say!(note; ", equal");
     }
-    note.extend_from_slice(b", ")?;
-    push_number(note, more)?;
-    note.extend_from_slice(b" more")
+    say!(note; ", ", more, " more")
 }
 
 /// Appends the best play, its score, and how many points more it would have given if it would not have given fewer.
 fn push_best(note: &mut Vec<u8>, best: &BestPlay) -> Result<(), AllocError> {
-    note.extend_from_slice(b"best ")?;
+    say!(note; "best ")?;
     push_play(note, &best.written, best.score)?;
     push_more(note, best.more)
 }
 
 /// Appends the next best plays, if there are any.
 fn push_next(note: &mut Vec<u8>, plays: &[ScoredPlay]) -> Result<(), AllocError> {
-    let mut before: &[u8] = b"; then ";
+    let mut before = "; then ";
     for play in plays {
-        note.extend_from_slice(before)?;
+        say!(note; before)?;
         push_play(note, &play.written, play.score)?;
-        before = b", ";
+        before = ", ";
     }
     Ok(())
 }
@@ -52,7 +50,7 @@ fn push_next(note: &mut Vec<u8>, plays: &[ScoredPlay]) -> Result<(), AllocError>
 fn push_turn(note: &mut Vec<u8>, best: &TurnBest) -> Result<(), AllocError> {
     match best {
         TurnBest::NoTurn | TurnBest::NotShown => Ok(()),
-        TurnBest::NoPlay => note.extend_from_slice(b"no play is possible"),
+        TurnBest::NoPlay => say!(note; "no play is possible"),
         TurnBest::Best(best) => push_best(note, best),
     }
 }
@@ -60,8 +58,7 @@ fn push_turn(note: &mut Vec<u8>, best: &TurnBest) -> Result<(), AllocError> {
 /// Appends words, each after a space.
 fn push_words(note: &mut Vec<u8>, words: &[SpelledWord]) -> Result<(), AllocError> {
     for word in words {
-        note.push(b' ')?;
-        note.extend_from_slice(word.letters.as_slice())?;
+        say!(note; " ", word.letters.as_slice())?;
     }
     Ok(())
 }
@@ -76,9 +73,9 @@ fn push_unlisted(
         return Ok(());
     }
     if !is_first {
-        note.extend_from_slice(b"; ")?;
+        say!(note; "; ")?;
     }
-    note.extend_from_slice(b"not in the list:")?;
+    say!(note; "not in the list:")?;
     push_words(note, words)
 }
 

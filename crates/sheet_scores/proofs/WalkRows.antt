@@ -15,8 +15,8 @@ use Rattle.game_walk.specs.declared.rows.Row.{Row}
 use Rattle.game_walk.specs.declared.walking.Walk.{Walk}
 use Rattle.game_walk.specs.Refusals.{EndsAt}
 use Rattle.game_walk.specs.Walks.{IsWalk}
-use Rattle.game_bests.specs.declared.unlisted.SpelledWord.{SpelledWord}
-use Rattle.game_bests.specs.Unlisted.{letters_in, unlisted_of}
+use Rattle.game_turns.specs.declared.unlisted.SpelledWord.{SpelledWord}
+use Rattle.game_turns.specs.Unlisted.{letters_in, unlisted_of}
 use Rattle.sheet_scores.specs.Rows.{numbers_after, HasNumbersAt, IsBeforeAt, IsNotedAt}
 
 pub copied_row : (rows : List Row) (place : ℕ) (o : Option (Bor Row)) → is_some o ≡ nat_lt place (length rows) → IfSome o (λ x. x.now ≡ get_or rows place x.now)

@@ -14,10 +14,10 @@ use Rattle.game_walk.specs.declared.refusals.Stop.{Stop}
 use Rattle.game_walk.specs.Numbers.{numbers_in}
 use Rattle.game_corrections.specs.WrongNumbers.{had_before, due, is_right_sum}
 use Rattle.game_bests.specs.declared.bests.TurnBest.{TurnBest}
-use Rattle.game_bests.specs.declared.unlisted.SpelledWord.{SpelledWord}
+use Rattle.game_turns.specs.declared.unlisted.SpelledWord.{SpelledWord}
 use Rattle.game_bests.specs.Bests.{IsTurnBest}
 use Rattle.sheet_scores.specs.Gains.{given_by}
-use Rattle.game_bests.specs.Unlisted.{letters_in, unlisted_of}
+use Rattle.game_turns.specs.Unlisted.{letters_in, unlisted_of}
 use Rattle.sheet_scores.specs.declared.rows.SheetRow.{SheetRow}
 use Rattle.sheet_scores.specs.Unders.{known_under}
 

@@ -15,10 +15,10 @@ ghost use Rattle.sheet_scores.specs.Rows.{should_be, known_if, total_should_be, 
 use crate::boards::is_taken_back;
 use crate::gains::given_by;
 use crate::unders::cells_under;
-use game_bests::{SpelledWord, TurnBest, unlisted_of};
+use game_bests::TurnBest;
 use game_corrections::{due, had_before, is_right_sum};
 use game_known::{Beside, KnownBests};
-use game_turns::Machine;
+use game_turns::{Machine, SpelledWord, unlisted_of};
 use game_walk::{Numbers, Row, Stop, Walk};
 use gcg_read::{Event, Points};
 use lex_check::Checked;

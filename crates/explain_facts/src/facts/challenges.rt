@@ -1,6 +1,6 @@
 //! Facts about a play that is taken back or challenged.
 
-use crate::facts::spelled::Spelled;
+use game_turns::SpelledWord;
 use gcg_read::Seat;
 
 /// What is said about a play that is taken back or challenged.
@@ -11,14 +11,14 @@ pub enum ChallengeFact {
         /// The line of the play.
         line: u32,
         /// Its words.
-        words: Vec<Spelled>,
+        words: Vec<SpelledWord>,
     },
     /// The challenge of the play before succeeds, since none of its words is in the word list.
     NoWordListed {
         /// The line of the play.
         line: u32,
         /// Its words.
-        words: Vec<Spelled>,
+        words: Vec<SpelledWord>,
     },
     /// The play before is the other player's, so it cannot be taken back.
     OthersPlay {

@@ -1,6 +1,6 @@
 //! What is said about a record as a whole.
 
-use crate::facts::spelled::Spelled;
+use game_turns::SpelledWord;
 use gcg_read::Seat;
 
 /// A play that stands with words that are not in the word list.
@@ -11,7 +11,7 @@ pub struct UnlistedPlay {
     /// Its player.
     pub player: Seat,
     /// Those of its words that are not in the list.
-    pub words: Vec<Spelled>,
+    pub words: Vec<SpelledWord>,
 }
 
 /// A rack that is shown in part.

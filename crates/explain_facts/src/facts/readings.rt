@@ -1,6 +1,6 @@
 //! Facts about a play with another tile in one place.
 
-use crate::facts::spelled::Spelled;
+use game_turns::SpelledWord;
 use ref_board::Square;
 use ref_tiles::{Counts, Kind};
 
@@ -38,7 +38,7 @@ pub enum ReadingFact {
         /// What it is read as: another letter, small for a blank.
         read: u8,
         /// The words of the play with it.
-        words: Vec<Spelled>,
+        words: Vec<SpelledWord>,
         /// The score of the play with it.
         score: i32,
         /// The score that is written.

@@ -4,7 +4,8 @@ ghost use Rattle.json_trees.specs.Trees.{view};
 ghost use Rattle.explain_json.specs.Scores.{bonus_object, challenge_object, no_play_object, others_object, play_words_object};
 
 use crate::fact_parts::{numbers_tree, words_tree};
-use explain_facts::{ChallengeFact, Spelled};
+use explain_facts::ChallengeFact;
+use game_turns::SpelledWord;
 use gcg_read::Seat;
 use json_base::number_of;
 use json_trees::{Tree, bool_tree, count_tree, integer_tree, name_tree, object, size_tree};
@@ -15,7 +16,7 @@ fn play_words(
     alloc: Global,
     name: &'static str,
     line: u32,
-    words: &[Spelled],
+    words: &[SpelledWord],
 ) -> Result<Tree, AllocError>
     ensures { IfOk result (λ tree. view tree ≡ play_words_object name.now line words.now) }
 {

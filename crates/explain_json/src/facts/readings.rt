@@ -4,7 +4,8 @@ ghost use Rattle.json_trees.specs.Trees.{view};
 ghost use Rattle.explain_json.specs.Plays.{as_blank_object, misread_object, not_on_rack_object, reading_object};
 
 use crate::fact_parts::{byte_tree, square_tree, words_tree};
-use explain_facts::{ReadingFact, Spelled};
+use explain_facts::ReadingFact;
+use game_turns::SpelledWord;
 use json_base::{tile_tree, tiles_tree};
 use json_trees::{Tree, integer_tree, name_tree, object, size_tree};
 use ref_board::Square;
@@ -62,7 +63,7 @@ fn misread(
     square: Square,
     letter: u8,
     read: u8,
-    words: &[Spelled],
+    words: &[SpelledWord],
     score: i32,
     written: i32,
 ) -> Result<Tree, AllocError>

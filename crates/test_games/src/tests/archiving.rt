@@ -1,10 +1,10 @@
 //! Lines of an archive.
 use archive_lines::{Answer, Fields, LineRead, Unread, push_json_line, push_tab_line};
-use cli_exits::exit_of_answer;
 use engine_stages::GameFault;
 use game_case::{Entry, Finding};
+use game_exits::exit_of_answer;
 use game_turns::RuleFault;
-use gcg_names::Encoding;
+use gcg_about::Encoding;
 use gcg_read::{ReadFault, Record, Why};
 use std::alloc::Global;
 use std::process::Abort;

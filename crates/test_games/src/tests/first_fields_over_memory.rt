@@ -1,5 +1,5 @@
 //! The first fields of the lines of a text, read a few bytes at a time.
-use lex_fields::FirstFields;
+use lex_words::FirstFields;
 use std::alloc::Global;
 use std::io::{Read, Result};
 use std::process::Abort;

@@ -1,7 +1,7 @@
 use Rattle.std.proofs.Common.{◌≡◌, ◌<◌, length, refl, arith}
 use Rattle.std.proofs.lemmas.Option.{slice_get_within}
 use Rattle.compare_repaired.specs.Same.{SameLine}
-use Rattle.repair_single.proofs.SameLists.{alike_more}
+use Rattle.gcg_read.proofs.AlikeLists.{alike_more}
 use Rattle.compare_repaired.proofs.same.same_game.Goals as goal
 
 pub loop-place-preserved : goal.loop-place-preserved

@@ -1,5 +1,5 @@
 use Rattle.compare_repaired.specs.Same.{SameLine}
-use Rattle.repair_single.proofs.SameLists.{AreAlikeTo}
+use Rattle.gcg_read.proofs.AlikeLists.{AreAlikeTo}
 use Rattle.compare_repaired.proofs.same.same_game.Given as goal
 
 abbrev pub invariant-loop-place : goal.invariant-loop-place

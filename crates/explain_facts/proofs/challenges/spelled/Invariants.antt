@@ -1,6 +1,6 @@
 use Rattle.std.proofs.Common.{◌≡◌, take}
 use Rattle.ref_play.specs.Words.{items_of}
-use Rattle.explain_facts.specs.Spelling.{letters_in}
+use Rattle.game_turns.specs.Unlisted.{letters_in}
 use Rattle.explain_facts.proofs.challenges.spelled.Given as goal
 
 abbrev pub invariant-loop-word : goal.invariant-loop-word

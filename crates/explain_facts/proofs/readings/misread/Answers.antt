@@ -6,7 +6,7 @@ use Rattle.ref_play.specs.Words.{items_of, words_formed}
 use Rattle.lex_list.specs.Words.{is_listed}
 use Rattle.explain_facts.specs.Moments.{moment_of}
 use Rattle.explain_facts.specs.Readings.{IsOnRack}
-use Rattle.explain_facts.specs.Spelling.{letters_in}
+use Rattle.game_turns.specs.Unlisted.{letters_in}
 use Rattle.explain_facts.proofs.Plays.{of_play}
 use Rattle.explain_facts.proofs.ReadLaws.{read_as, misread}
 use Rattle.explain_facts.proofs.readings.misread.Goals as goal

@@ -1,7 +1,7 @@
 use Rattle.std.proofs.Common.{◌∙◌, ap, subst, ℕ, List, None}
 use Rattle.gcg_read.specs.declared.events.Event.{Event}
 use Rattle.lex_check.specs.Pairs.{list_in}
-use Rattle.gcg_names.specs.Encodings.{encoding_of}
+use Rattle.gcg_about.specs.Encodings.{encoding_of}
 use Rattle.gcg_about.specs.Words.{AreWordsOf}
 use Rattle.explain_answers.specs.Explaining.{IsExplanation}
 use Rattle.page_answers.specs.Sheets.{IsPageSheet}

@@ -1,5 +1,5 @@
 use Rattle.std.proofs.Common.{◌∙◌, ap}
-use Rattle.game_bests.specs.Unlisted.{letters_in, unlisted_of}
+use Rattle.game_turns.specs.Unlisted.{letters_in, unlisted_of}
 use Rattle.repair_single.proofs.Audits.{rows_more, no_rows}
 use Rattle.repair_answers.proofs.no_change.unlisted_words.Goals as goal
 

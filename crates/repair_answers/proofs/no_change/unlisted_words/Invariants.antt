@@ -1,5 +1,5 @@
 use Rattle.std.proofs.Common.{◌≡◌, take}
-use Rattle.game_bests.specs.Unlisted.{letters_in}
+use Rattle.game_turns.specs.Unlisted.{letters_in}
 use Rattle.repair_single.specs.Remaining.{words_of_rows}
 use Rattle.repair_answers.proofs.no_change.unlisted_words.Given as goal
 

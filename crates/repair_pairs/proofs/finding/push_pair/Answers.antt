@@ -6,8 +6,9 @@ pub returns : goal.returns
 returns c =
     let then = c.args.then in
     let more = c.if-not-is_reported.false in
-    let wrong = c.len-wrong.ensures in
-    let unlisted = c.len-unlisted.ensures in
+    let wrong = c.len.ensures in
+    let unlisted = c.len-2.ensures in
+    let remaining = c.remaining_cost.ensures in
     let weighs = c.weight_of.ensures in
     let wrong_ok = then.remains.wrong.ok in
     let unlisted_ok = then.remains.unlisted.ok in

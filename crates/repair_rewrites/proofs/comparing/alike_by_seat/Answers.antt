@@ -1,7 +1,7 @@
 use Rattle.std.proofs.Common.{◌≡◌, ◌<◌, length, refl, arith}
 use Rattle.std.proofs.lemmas.Option.{slice_get_within}
 use Rattle.repair_rewrites.specs.Reading.{SameBySeat}
-use Rattle.repair_rewrites.proofs.SameLists.{alike_more}
+use Rattle.gcg_read.proofs.AlikeLists.{alike_more}
 use Rattle.repair_rewrites.proofs.comparing.alike_by_seat.Goals as goal
 
 pub loop-place-preserved : goal.loop-place-preserved

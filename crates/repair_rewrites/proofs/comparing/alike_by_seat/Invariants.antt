@@ -1,5 +1,5 @@
 use Rattle.repair_rewrites.specs.Reading.{SameBySeat}
-use Rattle.repair_rewrites.proofs.SameLists.{AreAlikeTo}
+use Rattle.gcg_read.proofs.AlikeLists.{AreAlikeTo}
 use Rattle.repair_rewrites.proofs.comparing.alike_by_seat.Given as goal
 
 abbrev pub invariant-loop-place : goal.invariant-loop-place

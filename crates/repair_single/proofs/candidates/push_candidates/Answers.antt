@@ -2,6 +2,7 @@ use Rattle.std.proofs.Common.{◌++◌, ◌∙◌, List, refl, ap, arith}
 use Rattle.game_turns.specs.Machines.{state_of}
 use Rattle.repair_slips.specs.Changes.{slips_by}
 use Rattle.repair_changes.specs.declared.slips.Change.{Change}
+use Rattle.repair_single.specs.Weighers.{wrong_by}
 use Rattle.repair_single.specs.Listing.{those_at}
 use Rattle.repair_single.proofs.PlaceChanges.{adds_none_at, added_with, listed_here, rows_fit}
 use Rattle.repair_single.proofs.candidates.push_candidates.Goals as goal
@@ -14,7 +15,7 @@ is_past_room-requires c =
 
 pub returns-then-is_past_room : goal.returns-then-is_past_room
 returns-then-is_past_room c =
-    adds_none_at c.args.rules.now c.args.list.now c.args.events.now c.args.plays.now c.args.below c.args.place c.args.found.now.items
+    adds_none_at c.args.weigher.now c.args.rules.now c.args.list.now c.args.events.now c.args.plays.now c.args.below c.room-room.result c.args.place c.args.found.now.items c.room-room.ensures
     (c.is_past_room.ensures c.args.rules.now c.requires.walk c.if-is_past_room.true)
 
 pub slips_with-requires : goal.slips_with-requires
@@ -33,5 +34,5 @@ pub returns : goal.returns
 returns c =
     let here = listed_here c.law_of_slips.ensures c.args.rules.now c.args.list.now c.args.events.now c.args.place c.in-Some.game.now
     (slips_by c.args.rules.now (state_of c.in-Some.game.now) c.args.events.now c.args.place) (c.in-Some.ensures.game c.args.rules.now c.args.list.now c.args.events.now c.requires.walk) refl in
-    added_with c.args.rules.now c.args.list.now c.args.events.now c.args.plays.now c.args.below c.args.place c.in_ok-slips.slips.items c.args.found.now.items c.push_slips.new.found.items c.push_slips.result
+    added_with (wrong_by c.args.weigher.now) c.args.rules.now c.args.list.now c.args.events.now c.args.plays.now c.args.below c.args.place c.in_ok-slips.slips.items c.args.found.now.items c.push_slips.new.found.items c.push_slips.result
     (c.in_ok-slips.ensures ∙ ap (λ (cs : List Change). cs ++ those_at c.args.plays.now c.args.place) here) c.push_slips.ensures

@@ -1,7 +1,7 @@
 use Rattle.std.proofs.Common.{◌≡◌, ◌<◌, length, refl, arith}
 use Rattle.std.proofs.lemmas.Option.{slice_get_within}
 use Rattle.repair_single.specs.Repairs.{SameEvent}
-use Rattle.repair_single.proofs.SameLists.{alike_more}
+use Rattle.gcg_read.proofs.AlikeLists.{alike_more}
 use Rattle.repair_single.proofs.comparing.same_record.Goals as goal
 
 pub loop-place-preserved : goal.loop-place-preserved

@@ -1,5 +1,5 @@
 use Rattle.repair_single.specs.Repairs.{SameEvent}
-use Rattle.repair_single.proofs.SameLists.{AreAlikeTo}
+use Rattle.gcg_read.proofs.AlikeLists.{AreAlikeTo}
 use Rattle.repair_single.proofs.comparing.same_record.Given as goal
 
 abbrev pub invariant-loop-place : goal.invariant-loop-place

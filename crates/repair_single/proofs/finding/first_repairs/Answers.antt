@@ -2,9 +2,10 @@ use Rattle.std.proofs.Common.{◌≡◌, ◌<◌, ◌∙◌, inl, inr, List, [],
 use Rattle.std.proofs.lemmas.Iterator.Adapters.{YieldsList-from_vec}
 use Rattle.std.proofs.lemmas.Iterator.Consumers.{YieldsList-turn, YieldsList-end}
 use Rattle.std.proofs.lemmas.List.{length_push}
+use Rattle.repair_single.specs.Weighers.{wrong_by}
 use Rattle.repair_single.specs.declared.listed.Listed.{Listed}
 use Rattle.repair_single.specs.declared.repair.Repair.{Repair}
-use Rattle.repair_single.specs.Repairs.{AreFirstRepairs}
+use Rattle.repair_single.specs.Repairs.{AreFirstBy}
 use Rattle.repair_single.proofs.FirstOnes.{AreSoFar, none_so_far, next_tried, first_ones}
 use Rattle.repair_single.proofs.finding.first_repairs.Goals as goal
 
@@ -12,10 +13,10 @@ pub loop-candidate-init : goal.loop-candidate-init
 loop-candidate-init c =
     record {
       so_far = λ plays are.
-          let so : AreSoFar c.args.rules.now c.args.list.now c.args.events.now plays c.args.below c.args.most c.args.found.items 0 [] [] =
-          none_so_far c.args.rules.now c.args.list.now c.args.events.now plays c.args.below c.args.most c.args.found.items in
-          subst (λ (xs : List Repair). AreSoFar c.args.rules.now c.args.list.now c.args.events.now plays c.args.below c.args.most c.args.found.items 0 xs c.new-2.result.items) (sym c.new.ensures.items)
-          (subst (λ (xs : List Listed). AreSoFar c.args.rules.now c.args.list.now c.args.events.now plays c.args.below c.args.most c.args.found.items 0 [] xs) (sym c.new-2.ensures.items) so);
+          let so : AreSoFar (wrong_by c.args.weigher.now) c.args.rules.now c.args.list.now c.args.events.now plays c.args.below c.args.most c.args.found.items 0 [] [] =
+          none_so_far (wrong_by c.args.weigher.now) c.args.rules.now c.args.list.now c.args.events.now plays c.args.below c.args.most c.args.found.items in
+          subst (λ (xs : List Repair). AreSoFar (wrong_by c.args.weigher.now) c.args.rules.now c.args.list.now c.args.events.now plays c.args.below c.args.most c.args.found.items 0 xs c.new-2.result.items) (sym c.new.ensures.items)
+          (subst (λ (xs : List Listed). AreSoFar (wrong_by c.args.weigher.now) c.args.rules.now c.args.list.now c.args.events.now plays c.args.below c.args.most c.args.found.items 0 [] xs) (sym c.new-2.ensures.items) so);
       from = refl;
     }
 
@@ -30,9 +31,9 @@ loop-candidate-preserved c =
           let few = so.few in
           let ok = c.loop-candidate.first.reported.ok in
           let room : length c.loop-candidate.first.reported.items < c.args.most = omega arith in
-          let next = next_tried c.args.rules.now c.args.list.now c.args.events.now plays c.args.below c.args.most found (length c.loop-candidate.yielded) c.in-Some.candidate c.loop-candidate.first
+          let next = next_tried (wrong_by c.args.weigher.now) c.args.rules.now c.args.list.now c.args.events.now plays c.args.below c.args.most found (length c.loop-candidate.yielded) c.in-Some.candidate c.loop-candidate.first
           c.push_candidate.new.self are so t.0 t.1 room c.in_ok-push_candidate.ensures.tried in
-          subst (λ n. AreSoFar c.args.rules.now c.args.list.now c.args.events.now plays c.args.below c.args.most found n c.push_candidate.new.self.reported.items c.push_candidate.new.self.remaining.items)
+          subst (λ n. AreSoFar (wrong_by c.args.weigher.now) c.args.rules.now c.args.list.now c.args.events.now plays c.args.below c.args.most found n c.push_candidate.new.self.reported.items c.push_candidate.new.self.remaining.items)
           (sym (length_push c.loop-candidate.yielded c.in-Some.candidate)) next;
       from = c.in_ok-push_candidate.ensures.from ∙ c.loop-candidate.invariant.from;
     }
@@ -44,8 +45,8 @@ returns-clause-reported c =
     c.loop-candidate.yielded_by c.next.result c.next.new.self c.in-None.is c.next.ensures.steps in
     let all = t.1 in
     λ plays are.
-    subst (λ n. AreFirstRepairs c.args.rules.now c.args.list.now c.args.events.now plays c.args.below n c.args.most c.loop-candidate.first.reported.items c.loop-candidate.first.remaining.items) (sym c.loop-candidate.invariant.from)
-    (first_ones c.args.rules.now c.args.list.now c.args.events.now plays c.args.below c.args.most found (length c.loop-candidate.yielded) c.loop-candidate.first.reported.items
+    subst (λ n. AreFirstBy (wrong_by c.args.weigher.now) c.args.rules.now c.args.list.now c.args.events.now plays c.args.below n c.args.most c.loop-candidate.first.reported.items c.loop-candidate.first.remaining.items) (sym c.loop-candidate.invariant.from)
+    (first_ones (wrong_by c.args.weigher.now) c.args.rules.now c.args.list.now c.args.events.now plays c.args.below c.args.most found (length c.loop-candidate.yielded) c.loop-candidate.first.reported.items
     c.loop-candidate.first.remaining.items are (c.loop-candidate.invariant.so_far plays are) (inl (omega (arith, all))))
 
 pub returns-then-len-most-clause-reported : goal.returns-then-len-most-clause-reported
@@ -53,6 +54,6 @@ returns-then-len-most-clause-reported c =
     let ok = c.loop-candidate.first.reported.ok in
     let many : length c.loop-candidate.first.reported.items ≡ c.args.most = omega arith in
     λ plays are.
-    subst (λ n. AreFirstRepairs c.args.rules.now c.args.list.now c.args.events.now plays c.args.below n c.args.most c.loop-candidate.first.reported.items c.loop-candidate.first.remaining.items) (sym c.loop-candidate.invariant.from)
-    (first_ones c.args.rules.now c.args.list.now c.args.events.now plays c.args.below c.args.most c.args.found.items (length c.loop-candidate.yielded) c.loop-candidate.first.reported.items
+    subst (λ n. AreFirstBy (wrong_by c.args.weigher.now) c.args.rules.now c.args.list.now c.args.events.now plays c.args.below n c.args.most c.loop-candidate.first.reported.items c.loop-candidate.first.remaining.items) (sym c.loop-candidate.invariant.from)
+    (first_ones (wrong_by c.args.weigher.now) c.args.rules.now c.args.list.now c.args.events.now plays c.args.below c.args.most c.args.found.items (length c.loop-candidate.yielded) c.loop-candidate.first.reported.items
     c.loop-candidate.first.remaining.items are (c.loop-candidate.invariant.so_far plays are) (inr many))

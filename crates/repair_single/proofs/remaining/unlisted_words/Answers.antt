@@ -1,6 +1,6 @@
 use Rattle.std.proofs.Common.{◌≡◌, ◌<◌, ◌++◌, ◌∙◌, List, ℕ, length, sym, ap, arith}
 use Rattle.game_turns.proofs.PlaceLaws.{start_tally}
-use Rattle.game_bests.specs.Unlisted.{letters_in}
+use Rattle.game_turns.specs.Unlisted.{letters_in}
 use Rattle.repair_single.specs.Remaining.{unlisted_at}
 use Rattle.repair_single.proofs.StayingWrong.{one_more, never_refused, next_tally, words_there, all_words}
 use Rattle.repair_single.proofs.remaining.unlisted_words.Goals as goal

@@ -2,7 +2,7 @@ use Rattle.std.proofs.Common.{◌≡◌}
 use Rattle.std.specs.List.{flat_map, range_with_len}
 use Rattle.game_turns.specs.Machines.{rules_of, state_of}
 use Rattle.game_turns.specs.Tallies.{tally_at}
-use Rattle.game_bests.specs.Unlisted.{letters_in}
+use Rattle.game_turns.specs.Unlisted.{letters_in}
 use Rattle.repair_single.specs.Remaining.{unlisted_at}
 use Rattle.repair_single.proofs.remaining.unlisted_words.Given as goal
 

@@ -2,7 +2,7 @@ use Rattle.std.proofs.Common.{ℕ, List, sym, subst}
 use Rattle.gcg_read.specs.declared.events.Event.{Event}
 use Rattle.lex_check.specs.Pairs.{list_in}
 use Rattle.game_walk.specs.Walks.{IsWalk}
-use Rattle.explain_openings.specs.Openings.{place_of_fault}
+use Rattle.explain_answers.specs.Openings.{place_of_fault}
 use Rattle.sheet_notes.specs.Notes.{AreNotes, noted_to, IsRefusalExplained}
 use Rattle.sheet_notes.proofs.sheets.noted_in.Goals as goal
 

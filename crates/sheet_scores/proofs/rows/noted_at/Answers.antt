@@ -1,5 +1,5 @@
 use Rattle.std.proofs.Common.{ap, ◌∙◌}
-use Rattle.game_bests.specs.Unlisted.{unlisted_of}
+use Rattle.game_turns.specs.Unlisted.{unlisted_of}
 use Rattle.sheet_scores.proofs.WalkRows.{noted_row}
 use Rattle.sheet_scores.proofs.rows.noted_at.Goals as goal
 

@@ -1,5 +1,5 @@
 use Rattle.std.proofs.Common.{◌∙◌, ap, ℕ, max, refl}
-use Rattle.cli_exits.specs.Exits.{status_of}
+use Rattle.game_exits.specs.Exits.{status_of}
 use Rattle.archive_answers.proofs.Running.{has_line}
 use Rattle.archive_answers.proofs.runs.RunLines.report.Goals as goal
 

@@ -1,5 +1,6 @@
 use Rattle.std.proofs.Common.{subst}
 use Rattle.repair_changes.specs.Applied.{applied}
+use Rattle.repair_single.specs.Weighers.{wrong_by}
 use Rattle.repair_single.specs.Trying.{IsCorrectionOf}
 use Rattle.repair_single.proofs.Reportings.{tried_ok, none_tried}
 use Rattle.repair_single.proofs.found.Found.push_candidate.Goals as goal
@@ -11,9 +12,9 @@ push_right-requires c =
 pub returns-in-Some-clause-tried : goal.returns-in-Some-clause-tried
 returns-in-Some-clause-tried c =
     let is = subst (IsCorrectionOf c.args.rules.now c.args.list.now (applied c.args.candidate.listed.change c.args.events.now)) c.in-Some.is c.in_ok-right.ensures in
-    tried_ok c.args.rules.now c.args.list.now c.args.events.now c.args.candidate c.in-Some.right c.args.self.now c.push_right.new.self c.push_right.result is c.push_right.ensures.tried
+    tried_ok (wrong_by c.args.weigher.now) c.args.rules.now c.args.list.now c.args.events.now c.args.candidate c.in-Some.right c.args.self.now c.push_right.new.self c.push_right.result is c.push_right.ensures.tried
 
 pub returns-in-None-clause-tried : goal.returns-in-None-clause-tried
 returns-in-None-clause-tried c =
-    none_tried c.args.rules.now c.args.list.now c.args.events.now c.args.candidate c.args.self.now c.args.self.now
+    none_tried (wrong_by c.args.weigher.now) c.args.rules.now c.args.list.now c.args.events.now c.args.candidate c.args.self.now c.args.self.now
     (subst (IsCorrectionOf c.args.rules.now c.args.list.now (applied c.args.candidate.listed.change c.args.events.now)) c.in-None.is c.in_ok-right.ensures)

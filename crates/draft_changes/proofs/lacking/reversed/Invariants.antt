@@ -1,5 +1,0 @@
-use Rattle.std.proofs.Common.{◌≡◌, ◌-◌, length, reverse, drop}
-use Rattle.draft_changes.proofs.lacking.reversed.Given as goal
-
-abbrev pub invariant-loop-following : goal.invariant-loop-following
-invariant-loop-following l = l.lacks.items ≡ reverse (drop (length l.there - l.following) l.there)

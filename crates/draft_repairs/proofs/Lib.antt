@@ -1,9 +1,0 @@
-pub mod Whole
-pub mod Weights
-pub mod Reportings
-pub mod FirstOnes
-pub mod SortedOnes
-pub mod Weighed
-pub mod OnDraft
-pub mod Answered
-pub mod Wanted

@@ -1,5 +1,0 @@
-pub mod Numbers
-pub mod Candidates
-pub mod Repairs
-pub mod Answers
-pub mod Laws

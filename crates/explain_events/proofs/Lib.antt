@@ -1,6 +1,0 @@
-pub mod FirstRefused
-pub mod Passed
-pub mod Refusing
-pub mod Showing
-pub mod Ruling
-pub mod Bounding

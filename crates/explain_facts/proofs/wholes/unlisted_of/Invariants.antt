@@ -1,8 +1,0 @@
-use Rattle.std.proofs.Common.{◌≡◌, take}
-use Rattle.ref_play.specs.Words.{items_of}
-use Rattle.explain_facts.specs.Spelling.{letters_in}
-use Rattle.explain_facts.specs.Wholes.{unlisted_of}
-use Rattle.explain_facts.proofs.wholes.unlisted_of.Given as goal
-
-abbrev pub invariant-loop-word : goal.invariant-loop-word
-invariant-loop-word l = letters_in l.kept.items ≡ unlisted_of l.list (items_of (take l.word-index l.words))

@@ -1,5 +1,0 @@
-use Rattle.lex_fields.proofs.Steps.{fields_end}
-use Rattle.lex_fields.proofs.reading.read_chunk.Goals as goal
-
-pub returns-clause-end : goal.returns-clause-end
-returns-clause-end g c = λ none some. fields_end _ _ (c.in_ok-read.ensures.bytes.1 none some)

@@ -1,6 +1,0 @@
-use Rattle.std.proofs.Common.{◌≡◌, take}
-use Rattle.repair_chains.specs.Totals.{remaining_of}
-use Rattle.repair_chains.proofs.chains.remaining_of.Given as goal
-
-abbrev pub invariant-loop-step : goal.invariant-loop-step
-invariant-loop-step l = l.remaining ≡ remaining_of (take l.step-index l.steps) l.events

@@ -1,8 +1,0 @@
-use Rattle.text_tabs.proofs.ReadBack.{read_back, one_line}
-use Rattle.text_tabs.proofs.laws.law_of_lines.Goals as goal
-
-pub returns-clause-read_back : goal.returns-clause-read_back
-returns-clause-read_back c = read_back
-
-pub returns-clause-one_line : goal.returns-clause-one_line
-returns-clause-one_line c = one_line
