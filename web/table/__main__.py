@@ -4,6 +4,7 @@ import sys
 from werkzeug.serving import WSGIRequestHandler, make_server
 
 from . import create_app
+from .place import told
 
 
 class Quiet(WSGIRequestHandler):
@@ -18,7 +19,7 @@ class Quiet(WSGIRequestHandler):
 def main() -> None:
     port, host = int(sys.argv[1]) if len(sys.argv) > 1 else 8080, sys.argv[2] if len(sys.argv) > 2 else "127.0.0.1"
     server = make_server(host, port, create_app(), threaded=True, request_handler=Quiet)
-    print(f"http://{host}:{server.server_port}/", flush=True)
+    print(told(f"{host}:{server.server_port}"), flush=True)
     try:
         server.serve_forever()
     except KeyboardInterrupt:

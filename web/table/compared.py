@@ -52,19 +52,17 @@ class Comparison:
     merged: Optional[str]
 
 
-def comparison_of(answer: dict[str, Any]) -> Comparison:
+def comparison_of(answer: dict[str, Any], unread: list[tuple[str, list[str]]]) -> Comparison:
     """What is shown of the object of `compare`; if a sheet cannot be read or has no event, of what is said of that sheet."""
     verdict = answer["verdict"]
     if "differences" not in answer:
-        return Comparison("A sheet cannot be read.", "illegal", [], [_unread(answer)], None)
+        which = " and ".join(name for name, _ in unread) or "other"
+        many = "sheets have" if len(unread) > 1 else "sheet has"
+        said = [f"{sentence(name)} sheet: {reason}" for name, reasons in unread for reason in reasons]
+        return Comparison(f"The {which} {many} no game that can be read.", "illegal", [], said, None)
     headline, kind = {"agree": ("The sheets agree.", "legal"), "unsettled": ("It is open which sheet is right.", "unsettled")}.get(verdict, ("The sheets differ.", "illegal"))
     rows = [row for it in answer["differences"] for row in _rows(it)]
     return Comparison(headline, kind, rows, _sentences(answer), answer["merged"])
-
-
-def _unread(answer: dict[str, Any]) -> str:
-    where = f"Line {answer['line']}" if answer.get("line") else "The text"
-    return "A sheet has no game in it." if answer["verdict"] == "no game" else f"{where} of a sheet cannot be read."
 
 
 def _rows(difference: dict[str, Any]) -> list[Row]:
@@ -114,7 +112,7 @@ def _right_rack(difference: dict[str, Any], line: dict[str, Any]) -> str:
 def _refused(refused: dict[str, Any]) -> str:
     """Where the rules refuse an event."""
     lines = [f"line {refused[sheet]} of the {sheet} sheet" for sheet in ("first", "second") if refused[sheet] is not None]
-    return f"{lines[0] if lines else 'the end of the game'} does not stand ({refused['fault']['name']})"
+    return f"{lines[0] if lines else 'the end of the game'} does not stand"
 
 
 def _many(number: int, thing: str) -> str:

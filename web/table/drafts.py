@@ -7,12 +7,13 @@ from __future__ import annotations
 
 import re
 from dataclasses import dataclass
-from typing import Optional
+from typing import Mapping, Optional
 
 HEADER = "#character-encoding UTF-8\n"
 EVENT = re.compile(r"^>\s*([^\s:]+):(.*)$")
 PLAYER = re.compile(r"^#player([12])[ \t]+([^\s:]+)(?:[ \t]+(.*?))?[ \t]*$")
 NUMBER = re.compile(r"^[+-]?[0-9]{1,6}$")
+ABOUT = ("event", "round", "table", "date")
 
 
 @dataclass(frozen=True)
@@ -76,6 +77,41 @@ def without_last(text: str) -> str:
     return without_line(text, events[-1]) if events else text
 
 
+def with_line_at(text: str, number: int, line: str, is_new: bool = False) -> str:
+    """A text with another line in place of one, or with a new one before it."""
+    lines = lines_of(text)
+    return "\n".join([*lines[: number - 1], line, *lines[number - is_new :]])
+
+
+def bare_from(text: str, number: int) -> str:
+    """A text whose events have no totals from a line on, and no scores but those of challenges and penalties, so that they can be filled in again."""
+    lines = lines_of(text)
+    return "\n".join([*lines[: number - 1], *(_bare(line) for line in lines[number - 1 :])])
+
+
+def _bare(line: str) -> str:
+    fields = fields_of(line)
+    if fields is None:
+        return line
+    is_typed = fields.move[:1] in (["(challenge)"], ["(time)"])
+    return " ".join([f">{fields.nick}:", *([fields.rack] if fields.rack else []), *fields.move, *(fields.numbers[:1] if is_typed else [])])
+
+
+def pragma_of(text: str, name: str) -> str:
+    """What a record says after a pragma, the first time."""
+    found = re.search(rf"^#{name}[ \t]+(.*?)[ \t]*\r?$", text, re.MULTILINE)
+    return found[1] if found else ""
+
+
+def with_pragma(text: str, name: str, said: str) -> str:
+    """A record with a pragma before its events, if it has none of that name."""
+    if not said or pragma_of(text, name):
+        return text
+    lines = lines_of(text)
+    at = next((at for at, line in enumerate(lines) if line.startswith(">")), len(lines) - (lines[-1:] == [""]))
+    return "\n".join([*lines[:at], f"#{name} {said}", *lines[at:]])
+
+
 def has_holes(text: str) -> bool:
     """Whether numbers are missing at the ends of lines."""
     return any(fields.missing for line in lines_of(text) if (fields := fields_of(line)))
@@ -100,14 +136,17 @@ def players_of(text: str) -> list[Player]:
     return [Player(nick, name) for nick, name in found.items()][:2]
 
 
-def started(first: str, second: str) -> str:
-    """The text of a game that begins, with the players' names."""
+def started(first: str, second: str, lexicon: str = "", about: Mapping[str, str] = {}) -> str:
+    """The text of a game that begins, with the players' names, the name of the list, and what else is known of it."""
     names = [" ".join(name.split()) for name in (first, second)]
     nicks = [_nick_of(name, f"Player{number}") for number, name in enumerate(names, 1)]
     if nicks[0] == nicks[1]:
         nicks[1] += "2"
     rows = [f"#player{number} {nick} {name}".rstrip() if name != nick else f"#player{number} {nick}" for number, (nick, name) in enumerate(zip(nicks, names), 1)]
-    return HEADER + "\n".join(rows) + "\n"
+    text = HEADER + "\n".join(rows) + "\n"
+    for name, said in (("lexicon", lexicon), *about.items()):
+        text = with_pragma(text, name, " ".join(said.split()))
+    return text
 
 
 def _nick_of(name: str, otherwise: str) -> str:
@@ -117,9 +156,17 @@ def _nick_of(name: str, otherwise: str) -> str:
 
 
 def file_name(text: str, end: str) -> str:
-    """A name for a file of a game: the nicknames, in plain letters."""
-    nicks = ["".join(letter for letter in player.nick if letter.isascii() and letter.isalnum()) for player in players_of(text)]
-    return "-".join([nick.lower() for nick in nicks if nick] or ["game"]) + end
+    """A name for a file of a game, in plain letters: the nicknames, and what else is known of the game."""
+    parts = [_plain(player.nick) for player in players_of(text)]
+    about = {name: _plain(pragma_of(text, name)) for name in ABOUT}
+    parts += [about["event"], *(f"{name}-{about[name]}" for name in ("round", "table") if about[name]), about["date"]]
+    return "-".join([part for part in parts if part] or ["game"]) + end
+
+
+def _plain(text: str) -> str:
+    """A text in small letters, digits and hyphens alone."""
+    kept = ["".join(letter for letter in word if letter.isascii() and letter.isalnum()).lower() for word in re.split(r"[\s_./-]+", text)]
+    return "-".join(word for word in kept if word)[:40]
 
 
 def kept_tiles(fields: Fields) -> Optional[str]:

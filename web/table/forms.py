@@ -1,20 +1,40 @@
-"""What a form brings: texts, files and what is kept from page to page."""
+"""What a form brings: texts, files and what is kept from page to page; and which list and rules it is about."""
 from __future__ import annotations
 
 import base64
 import binascii
 from typing import Optional
 
-from flask import Response, abort, current_app, make_response, request
+from flask import Response, abort, current_app, g, make_response, request
 from referee import text_of
 
-from .judge import Judge
+from . import drafts
+from .judge import Judge, Judges
+
+
+def judges() -> Judges:
+    """The programs of this page."""
+    found: Judges = current_app.extensions["judges"]
+    return found
+
+
+def chosen(text: str = "") -> tuple[str, str]:
+    """The list and the rules of this request: those that it names, or else the list that a text names, or else the first ones."""
+    if "chosen" not in g:
+        g.chosen = judges().names(request.values.get("list") or drafts.pragma_of(text, "lexicon"), request.values.get("rules", ""))
+    names: tuple[str, str] = g.chosen
+    return names
 
 
 def judge() -> Judge:
-    """The program of this page."""
-    found: Judge = current_app.extensions["judge"]
-    return found
+    """The program that this request asks."""
+    return judges().of(chosen())
+
+
+def further() -> dict[str, str]:
+    """What the address of a page has besides the game: the list and the rules, if they are not the first ones."""
+    names = zip(("list", "rules"), chosen(), judges().names())
+    return {key: name for key, name, first in names if name != first}
 
 
 def kept(text: str) -> str:
@@ -32,6 +52,12 @@ def unkept(field: str) -> str:
 
 def text_in(name: str) -> str:
     """A text: that of a file, or else what was pasted. A browser sends the ends of pasted lines as CR LF."""
+    text = _text_in(name)
+    chosen(text)
+    return text
+
+
+def _text_in(name: str) -> str:
     sent = request.files.get(f"{name}-file")
     if sent is not None and sent.filename:
         return text_of(sent.read())
@@ -46,15 +72,9 @@ def field(name: str) -> str:
     return " ".join(request.form.get(name, "").split())
 
 
-def line_in(name: str) -> Optional[int]:
-    """A line number, if there is one."""
-    text = request.form.get(name, "").strip()
-    return int(text) if text.isascii() and text.isdigit() and len(text) < 8 else None
-
-
-def download(text: str, name: str, kind: str = "text/plain") -> Response:
+def download(content: str | bytes, name: str, kind: str = "text/plain; charset=utf-8") -> Response:
     """An answer that the browser keeps as a file."""
-    answer = make_response(text.encode("utf-8", "replace"))
-    answer.headers["Content-Type"] = f"{kind}; charset=utf-8"
+    answer = make_response(content if isinstance(content, bytes) else content.encode("utf-8", "replace"))
+    answer.headers["Content-Type"] = kind
     answer.headers["Content-Disposition"] = f'attachment; filename="{name}"'
     return answer

@@ -1,7 +1,7 @@
 """All that the page knows of a game: the requests to `referee serve`, and the one command whose remarks on a text have no request.
 
-A worker has one `serve` for what takes milliseconds, and starts another one when something is first asked that may take longer, so that nobody waits for
-the long request of somebody else. A long request has a limit of time, and ends in `TooLong` when that is over.
+For each list with its rules a worker has one `serve` for what takes milliseconds, and starts another one when something is first asked that may take
+longer, so that nobody waits for the long request of somebody else. A long request has a limit of time, and ends in `TooLong` when that is over.
 """
 from __future__ import annotations
 
@@ -14,9 +14,11 @@ from typing import Any, Optional
 from referee import Answer, BadInput, Broken, Referee, TimedOut
 
 from . import drafts
-from .settings import Settings
+from .settings import Rules, Settings, WordList
 
 QUICK_SECONDS = 10.0
+START_SECONDS = 600.0
+SOON = 3.0
 ASIDE = "referee: "
 
 
@@ -46,10 +48,10 @@ class Next:
 
 
 class Judge:
-    """The program, as this page asks it."""
+    """The program with one list and its rules, as this page asks it."""
 
-    def __init__(self, settings: Settings) -> None:
-        self.settings = settings
+    def __init__(self, settings: Settings, words: WordList, rules: Rules) -> None:
+        self.settings, self.list, self.rules = settings, words, rules
         self._starting, self._slow_turn = threading.Lock(), threading.Lock()
         self._quick: Optional[Referee] = None
         self._slow: Optional[Referee] = None
@@ -59,12 +61,13 @@ class Judge:
     def _started(self) -> Referee:
         settings = self.settings
         return Referee(
-            settings.words,
-            settings.lexicon,
-            rules=settings.rules,
+            self.list.words,
+            self.list.lexicon,
+            rules=self.rules.file,
             first_field=settings.first_field,
             skip_others=settings.skip_others,
             program=settings.program,
+            timeout=START_SECONDS,
         )
 
     @property
@@ -93,14 +96,15 @@ class Judge:
         except TimedOut as error:
             raise TooLong from error
 
-    def _ask_long(self, do: str, **members: Any) -> Answer:
+    def _ask_long(self, do: str, most: Optional[float] = None, **members: Any) -> Answer:
         """The answer to a request that may take long. Whoever comes while another one is answered waits for the limit too, and no longer."""
-        if not self._slow_turn.acquire(timeout=self.settings.seconds):
+        seconds = min(self.settings.seconds, most or self.settings.seconds)
+        if not self._slow_turn.acquire(timeout=seconds):
             raise TooLong
         try:
             if self._slow is None:
                 self._slow = self._started()
-            return self._slow.ask(do, timeout=self.settings.seconds, **members)
+            return self._slow.ask(do, timeout=seconds, **members)
         except TimedOut as error:
             raise TooLong from error
         finally:
@@ -115,20 +119,34 @@ class Judge:
         except BadInput as bad:
             return _why(bad)
 
-    def line(self, game: str, line: Optional[int] = None) -> Answer:
-        """What there is to say of a line, or of the record."""
+    def line(self, draft: str, line: Optional[int] = None) -> Answer:
+        """What there is to say of a line of a draft, or of the draft."""
         try:
-            return self._ask("explain", game=game, line=line, likely=False)
+            return self._ask("explain", game=draft, line=line, likely=False, draft=True)
         except BadInput as bad:
             return _why(bad)
 
-    def reasons(self, game: str) -> list[str]:
-        """What explains the verdict, in sentences. A page of the game has them too."""
+    def reasons(self, draft: str) -> list[str]:
+        """What explains the verdict on a draft, in sentences. They are those of the page of the record that it makes, but for those that rest on a number
+        which nobody wrote, and for the tiles that a rack would have with one that it lacks."""
+        judged = self.filled(draft).judged
         try:
-            page = self._ask("page", game=game, likely=False).text
+            page = self._ask("page", game=judged, likely=False).text
         except BadInput:
-            return self.remarks(game)
-        return _texts_of(page or "", "why")
+            return self.remarks(judged)
+        sentences = _texts_of(page or "", "why")
+        said, meant = self._facts(judged, draft=False), self._facts(draft, draft=True)
+        if len(said) != len(sentences):
+            return sentences
+        names = [fact["name"] for fact in meant]
+        return [text for text, fact in zip(sentences, said) if fact in meant and not (fact["name"] == "RackTooBig" and "NotOnRack" in names)]
+
+    def _facts(self, game: str, draft: bool) -> list[dict[str, Any]]:
+        """What is said of a text, as values."""
+        try:
+            return self._ask("explain", game=game, likely=False, draft=draft).get("facts") or []
+        except BadInput:
+            return []
 
     def remarks(self, game: str) -> list[str]:
         """What the program says aside of a text: what its line lacks, what kind of file it seems to be, and which lines are not read."""
@@ -136,10 +154,10 @@ class Judge:
         lines = [line[len(ASIDE) :] for line in ran.stderr.splitlines() if line.startswith(ASIDE)]
         return [line.replace("standard input line", "Line", 1) if "standard input line" in line else line.replace("standard input", "The text", 1) for line in lines]
 
-    def board(self, game: str, line: Optional[int] = None) -> Optional[Answer]:
-        """The board after the last event, or before a line; nothing if the text is not a record."""
+    def board(self, draft: str, line: Optional[int] = None) -> Optional[Answer]:
+        """The board after the last event, or before a line; nothing if the text is not a draft."""
         try:
-            return self._ask("board", game=game, line=line)
+            return self._ask("board", game=draft, line=line, draft=True)
         except BadInput:
             return None
 
@@ -150,9 +168,21 @@ class Judge:
         except BadInput as bad:
             return _why(bad)
 
-    def tidy(self, game: str) -> str:
-        """The normal form of a record."""
-        return self._ask("tidy", game=game).text or ""
+    def righted(self, draft: str) -> Optional[str]:
+        """The record with the right numbers, if nothing else is wrong with it."""
+        try:
+            answer = self._ask("fill", draft=draft, filled=True)
+        except BadInput:
+            return None
+        return answer.text if answer["verdict"] in ("legal", "unsettled") and answer.get("wrong") else None
+
+    def ahead(self, draft: str) -> Optional[dict[str, Any]]:
+        """Who is ahead, and by how many points."""
+        try:
+            found: Optional[dict[str, Any]] = self._ask("fill", draft=draft).get("ahead")
+            return found
+        except BadInput:
+            return None
 
     def filled(self, draft: str) -> Filled:
         """A draft with the numbers that are missing, up to the line that the rules refuse."""
@@ -191,7 +221,7 @@ class Judge:
     def top(self, game: str, rack: Optional[str], line: Optional[int]) -> Answer:
         """The best plays."""
         try:
-            return self._ask_long("top", game=game, rack=rack, line=line)
+            return self._ask_long("top", game=game, rack=rack, line=line, number=60)
         except BadInput as bad:
             return _why(bad)
 
@@ -205,10 +235,10 @@ class Judge:
                     raise
         return ""
 
-    def repairs(self, game: str) -> Answer:
-        """The repairs of a sheet, the likeliest first."""
+    def repairs(self, draft: str, is_patient: bool) -> Answer:
+        """The repairs of a sheet, the likeliest first, if they are found soon, or within the limit."""
         try:
-            return self._ask_long("repair", game=game)
+            return self._ask_long("repair", most=None if is_patient else SOON, game=draft, draft=drafts.has_holes(draft))
         except BadInput as bad:
             return _why(bad)
 
@@ -220,9 +250,9 @@ class Judge:
             return None
 
     def compare(self, first: str, second: str) -> Answer:
-        """What differs between two sheets, with the merged record, if there is one."""
+        """What differs between two drafts, with the merged record, if there is one."""
         try:
-            return self._ask_long("compare", first=first, second=second)
+            return self._ask_long("compare", first=first, second=second, draft=drafts.has_holes(first) or drafts.has_holes(second))
         except BadInput as bad:
             return _why(bad)
 
@@ -234,6 +264,32 @@ class Judge:
             raise TooLong from error
         except OSError as error:
             raise Broken(error) from error
+
+
+class Judges:
+    """The programs of a page: one for each list with its rules, which is started when it is first asked."""
+
+    def __init__(self, settings: Settings) -> None:
+        self.settings, self._starting = settings, threading.Lock()
+        self._of: dict[tuple[str, str], Judge] = {}
+        self.lists = {it.name: it for it in settings.lists}
+        self.rules = {it.name: it for it in settings.rules}
+
+    def names(self, words: str = "", rules: str = "") -> tuple[str, str]:
+        """The names of a list and of rules that there are: those that are asked for, or the first ones."""
+        return (words if words in self.lists else next(iter(self.lists)), rules if rules in self.rules else next(iter(self.rules)))
+
+    def of(self, names: tuple[str, str]) -> Judge:
+        """The program for a list and rules."""
+        with self._starting:
+            if names not in self._of:
+                self._of[names] = Judge(self.settings, self.lists[names[0]], self.rules[names[1]])
+            return self._of[names]
+
+    def close(self) -> None:
+        """Ends the programs."""
+        for judge in self._of.values():
+            judge.close()
 
 
 def _why(bad: BadInput) -> Answer:

@@ -19,6 +19,7 @@ POLICY = {
     "style-src": "'self'",
     "script-src": "'self'",
     "img-src": "'self'",
+    "connect-src": "'self'",
     "frame-src": "data:",
     "form-action": "'self'",
     "base-uri": "'none'",
@@ -57,8 +58,9 @@ class Guard:
         if name_in(request.host) not in self.settings.names:
             abort(403, "This page is not called by that name.")
         self.check_length()
-        if request.method == "POST":
+        if request.method == "POST" or request.args:
             self.check_origin()
+        if request.method == "POST":
             if not self.has_token():
                 return self.asked_again()
         return None
@@ -71,7 +73,7 @@ class Guard:
             abort(413)
 
     def check_origin(self) -> None:
-        """A form of another site is refused."""
+        """A form of another site is refused, and a link of another site that brings more than a path."""
         origin = request.headers.get("Origin")
         if origin is not None and urlsplit(origin).netloc != request.host:
             abort(403, "Another site may not ask.")
@@ -104,7 +106,7 @@ class Guard:
         policy = POLICY | ({"style-src": f"'self' {g.style}"} if "style" in g else {})
         answer.headers["Content-Security-Policy"] = "; ".join(f"{key} {value}" for key, value in policy.items())
         answer.headers.extend(HEADERS)
-        answer.headers["Cache-Control"] = "no-cache" if request.endpoint == "static" else "no-store"
+        answer.headers["Cache-Control"] = "no-cache" if request.endpoint == "static" else "private, max-age=0"
         if "cookie" in g and request.cookies.get(COOKIE) != g.cookie:
             answer.set_cookie(COOKIE, g.cookie, httponly=True, samesite="Strict")
         return answer

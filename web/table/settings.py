@@ -11,12 +11,31 @@ OWN_NAMES = frozenset({"127.0.0.1", "localhost", "::1"})
 
 
 @dataclass(frozen=True)
-class Settings:
-    """The settings of a page."""
+class WordList:
+    """A word list: its name, its file, and the file of its lexicon."""
 
+    name: str
     words: str
     lexicon: str
-    rules: Optional[str] = None
+
+
+@dataclass(frozen=True)
+class Rules:
+    """Rules: their name, and their file, if they are not those that the program has."""
+
+    name: str
+    file: Optional[str] = None
+
+
+ENGLISH = Rules("English")
+
+
+@dataclass(frozen=True)
+class Settings:
+    """The settings of a page. The first list and the first rules are those of a game for which nothing is chosen."""
+
+    lists: tuple[WordList, ...]
+    rules: tuple[Rules, ...] = (ENGLISH,)
     first_field: bool = False
     skip_others: bool = False
     program: str = "referee"
@@ -27,12 +46,12 @@ class Settings:
 
 
 def settings_of(environment: Mapping[str, str] = os.environ) -> Settings:
-    """The settings that the variables of the environment say, which start.sh sets."""
+    """The settings that the variables of the environment say, which start.sh sets: of the lists and of the rules a line has each, with tabs between."""
     other_names = environment.get("TABLE_NAMES", "").split()
+    rules = tuple(Rules(*line.split("\t")) for line in environment.get("TABLE_RULES", "").splitlines())
     return Settings(
-        words=environment["TABLE_WORDS"],
-        lexicon=environment["TABLE_LEXICON"],
-        rules=environment.get("TABLE_RULES") or None,
+        lists=tuple(WordList(*line.split("\t")) for line in environment["TABLE_LISTS"].splitlines()),
+        rules=tuple(Rules(it.name, it.file or None) for it in rules) or (ENGLISH,),
         first_field=bool(environment.get("TABLE_FIRST_FIELD")),
         skip_others=bool(environment.get("TABLE_SKIP_OTHERS")),
         program=environment.get("TABLE_PROGRAM") or "referee",

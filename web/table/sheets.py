@@ -4,13 +4,14 @@ from __future__ import annotations
 import base64
 import hashlib
 import re
-from typing import Any
+from typing import Any, Mapping, Optional
 
 from flask import Blueprint, Response, g, render_template, request
 
-from . import drafts, shown
+from . import drafts, ruling, shown
+from .address import Page, led_to, packed, unpacked
 from .compared import comparison_of
-from .forms import download, field, judge, line_in, text_in
+from .forms import chosen, download, field, further, judge, text_in
 from .judge import TooLong
 
 pages = Blueprint("sheets", __name__)
@@ -25,23 +26,41 @@ def kept_filter(text: str) -> str:
     return base64.b64encode(text.encode("utf-8", "replace")).decode()
 
 
+def text_of_address(name: str = "g") -> str:
+    """The text that the address has, or none."""
+    text = unpacked(request.args[name]) if name in request.args else ""
+    chosen(text)
+    return text
+
+
+# A sheet.
+
+
 @pages.get("/sheet")
-def sheet_form() -> str:
-    """The form for a sheet."""
-    return render_template("sheet.html", here="sheet")
+def sheet_page() -> str:
+    """The form for a sheet, or what a sheet says."""
+    text = text_of_address()
+    return checked(text, request.args) if text else render_template("sheet.html", here="sheet")
 
 
 @pages.post("/sheet")
-def sheet() -> str:
-    """What a sheet says, and what it should say."""
+def sheet() -> Page:
+    """The way to what a sheet says."""
     written = text_in("game")
     if not written.strip():
         return render_template("sheet.html", here="sheet", missing=NO_TEXT)
+    asked = {name: field(name) for name in ("taken", "look")}
+    return led_to("sheets.sheet_page", lambda _: checked(written, asked), g=packed(written), **asked, **further())
+
+
+def checked(written: str, asked: Mapping[str, str]) -> str:
+    """What a sheet says, and what it should say."""
     filled = judge().filled(written)
     text, has_holes = filled.judged, drafts.has_holes(filled.text)
-    verdict = judge().line(text)
+    verdict = judge().verdict(text)
     answer = judge().audit(text)
     faulty = verdict["verdict"] in ("illegal", "bad record")
+    corrected = answer.text if answer.text is not None and answer.text != text else None
     return render_template(
         "checked.html",
         here="sheet",
@@ -51,14 +70,15 @@ def sheet() -> str:
         verdict=verdict,
         headline=_headline(verdict, answer),
         kind=KINDS.get(verdict["verdict"], "illegal"),
-        reasons=judge().reasons(text),
+        reasons=judge().reasons(filled.text),
         answer=answer,
         wrong=[] if has_holes else [it for it in answer.get("wrong") or [] if it["written"] != it["right"]],
-        line_text=_line_text(text, verdict.get("line")),
-        corrected=answer.text if answer.text is not None and answer.text != text else None,
+        line_text=_line_text(filled.text, verdict.get("line")),
+        corrected=corrected,
         stands=answer["verdict"] == "legal",
-        taken=bool(request.form.get("taken")),
-        **(_repairs(text) if faulty and not has_holes else {}),
+        is_game=verdict["verdict"] not in ("bad record", "no game"),
+        taken=bool(asked.get("taken")),
+        **(_repairs(filled.text, corrected is not None, bool(asked.get("look"))) if faulty else {}),
     )
 
 
@@ -76,13 +96,14 @@ def _headline(verdict: dict[str, Any], answer: dict[str, Any]) -> str:
     return shown.verdict_text(verdict)
 
 
-def _repairs(text: str) -> dict[str, Any]:
-    """The likely repairs of a sheet that does not stand, or that they took too long."""
+def _repairs(text: str, is_righted: bool, is_patient: bool) -> dict[str, Any]:
+    """The likely repairs of a sheet that does not stand; or that they take longer, or took too long."""
     try:
-        found = judge().repairs(text)
+        found = judge().repairs(text, is_patient)
     except TooLong:
-        return {"too_long": True}
-    return {"repairs": shown.repairs_of(found, text), "looked": True, "alone": found.get("numbers_alone")}
+        return {"too_long": True} if is_patient else {"later": True}
+    repairs = shown.repairs_of(found, text, is_righted)
+    return {"repairs": repairs, "looked": True, "is_amount": bool(repairs) and repairs[0].is_amount}
 
 
 @pages.post("/keep")
@@ -92,58 +113,108 @@ def keep() -> Response:
     if what == "annotated":
         return download(judge().annotated(text) or text, drafts.file_name(text, "-annotated.gcg"))
     if what == "page":
-        return download(judge().page(text), drafts.file_name(text, ".html"), "text/html")
+        return download(judge().page(text), drafts.file_name(text, ".html"), "text/html; charset=utf-8")
     return download(text, drafts.file_name(text, {"corrected": "-corrected.gcg", "merged": "-merged.gcg", "repaired": "-repaired.gcg"}.get(what, ".gcg")))
 
 
+# Two sheets.
+
+
 @pages.get("/two")
-def two_form() -> str:
-    """The form for two sheets."""
-    return render_template("two.html", here="two")
+def two_page() -> str:
+    """The form for two sheets, or where they differ."""
+    first, second = (text_of_address(name) for name in ("a", "b"))
+    return both(first, second) if first and second else render_template("two.html", here="two")
 
 
 @pages.post("/two")
-def two() -> str:
-    """Where two sheets of one game differ, and the record that is made of them."""
-    first, second = (judge().filled(text_in(name)).judged for name in ("first", "second"))
+def two() -> Page:
+    """The way to where two sheets of one game differ."""
+    first, second = text_in("first"), text_in("second")
     if not first.strip() or not second.strip():
         return render_template("two.html", here="two", missing="Two sheets are needed: choose two files, or paste two texts.", texts=(first, second))
-    answer = comparison_of(judge().compare(first, second))
+    return led_to("sheets.two_page", lambda _: both(first, second), a=packed(first), b=packed(second), **further())
+
+
+def both(first: str, second: str) -> str:
+    """Where two sheets of one game differ, and the record that is made of them."""
+    unread = [(name, judge().reasons(text)) for name, text in (("first", first), ("second", second)) if not _is_read(text)]
+    answer = comparison_of(judge().compare(first, second), unread)
     return render_template("compared.html", here="two", answer=answer, first=first, second=second)
 
 
+def _is_read(text: str) -> bool:
+    """Whether a text is a draft with an event."""
+    return judge().line(text)["verdict"] not in ("bad record", "no game")
+
+
+# A challenge.
+
+
 @pages.get("/challenge")
-def challenge_form() -> str:
-    """The form for a challenge."""
-    return render_template("challenge.html", here="challenge")
+def challenge_page() -> str:
+    """The form for a challenge, with the ruling on the words that the address has."""
+    return _challenged(request.args) if "words" in request.args else render_template("challenge.html", here="challenge")
 
 
 @pages.post("/challenge")
-def challenge() -> str:
-    """Whether words are acceptable: one answer for all of them, as in a ruling, or one for each."""
-    words = re.findall(r"[^\s,;]+", field("words"))
-    answer = judge().word(words) if words else None
-    return render_template("challenge.html", here="challenge", answer=answer, words=words, each="each" in request.form)
+def challenge() -> Page:
+    """The way to the ruling on words."""
+    asked = {"words": field("words"), "each": "1" if "each" in request.form else ""}
+    return led_to("sheets.challenge_page", _challenged, **asked, **further()) if asked["words"] else _challenged(asked)
+
+
+def _challenged(asked: Mapping[str, str]) -> str:
+    each = bool(asked.get("each"))
+    return render_template("challenge.html", here="challenge", ruled=ruling.of(asked["words"], each), each=each)
+
+
+# The page of a game.
 
 
 @pages.get("/view")
-def view_form() -> str:
-    """The form for the page of a game."""
-    return render_template("view.html", here="view")
+def view_page() -> str:
+    """The form for the page of a game, or that page."""
+    text = text_of_address()
+    return viewed(text, request.args) if text else render_template("view.html", here="view")
 
 
 @pages.post("/view")
-def view() -> str:
-    """The page of a game in a frame that may do nothing, and the best plays of a rack."""
-    text = judge().filled(text_in("game")).judged
+def view() -> Page:
+    """The way to the page of a game."""
+    text = text_in("game")
     if not text.strip():
         return render_template("view.html", here="view", missing=NO_TEXT)
+    asked = {"rack": field("rack")[:40], "line": field("line")[:8]}
+    return led_to("sheets.view_page", lambda _: viewed(text, asked), g=packed(text), **asked, **further())
+
+
+def viewed(written: str, asked: Mapping[str, str]) -> str:
+    """The page of a game in a frame that may do nothing, and the best plays of a rack."""
+    text = judge().filled(written).judged
     answer = judge().verdict(text)
-    rack, line = field("rack").upper().replace(" ", ""), line_in("line")
+    rack, line = asked.get("rack", "").upper().replace(" ", ""), _number(asked.get("line", ""))
     top = judge().top(text, rack or None, line) if rack or line else None
     page = judge().page(text) if answer.get("events") else ""
     g.style = _style_of(page)
-    return render_template("viewed.html", here="view", text=text, page=page, answer=answer, headline=shown.verdict_text(answer), reasons=[] if page else judge().reasons(text), rack=rack, line=line, top=top)
+    return render_template(
+        "viewed.html",
+        here="view",
+        text=text,
+        page=page,
+        answer=answer,
+        headline=shown.verdict_text(answer),
+        reasons=[] if page else judge().reasons(written),
+        rack=rack,
+        line=line,
+        top=top,
+        best=shown.best_of(top),
+    )
+
+
+def _number(text: str) -> Optional[int]:
+    """A number of a line, if it is one."""
+    return int(text) if text.isascii() and text.isdigit() and len(text) < 8 else None
 
 
 def _style_of(page: str) -> str:

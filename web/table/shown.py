@@ -7,6 +7,7 @@ from typing import Any, Optional
 from . import drafts
 
 COLUMNS = "ABCDEFGHIJKLMNO"
+TAKEN_OUT = ("line too many", "pass too many")
 PREMIUMS = {"=": ("T", "TW", "triple word"), "-": ("D", "DW", "double word"), '"': ("t", "TL", "triple letter"), "'": ("d", "DL", "double letter")}
 
 
@@ -43,12 +44,60 @@ def board_of(answer: Optional[dict[str, Any]], marked: list[str]) -> list[list[C
     return [[cell_of(mark, row, column, len(rows) // 2, set(marked)) for column, mark in enumerate(marks)] for row, marks in enumerate(rows)]
 
 
+def marked_of(play: Optional[dict[str, Any]]) -> list[str]:
+    """The squares on which a play put down tiles."""
+    return [square["square"] for word in play["words"] for square in word["squares"] if square["new"]] if play else []
+
+
+@dataclass(frozen=True)
+class Row:
+    """A line of a sheet: its number, who, the rack, what happened, the numbers as they are written, and whether it is where the game stops, or after it."""
+
+    line: int
+    nick: str
+    rack: str
+    said: str
+    kind: str
+    score: str
+    total: str
+    is_fault: bool
+    is_after: bool
+
+
+def sheet_of(text: str, events: list[dict[str, Any]], fault: Optional[int]) -> list[Row]:
+    """The lines of a sheet, as they are written, the last one first."""
+    lines, of = drafts.lines_of(text), {event["line"]: event for event in events}
+    return [_row(number, lines[number - 1], of.get(number), fault) for number in reversed(drafts.event_lines(text))]
+
+
+def _row(number: int, line: str, event: Optional[dict[str, Any]], fault: Optional[int]) -> Row:
+    fields = drafts.fields_of(line)
+    where = {"is_fault": number == fault, "is_after": fault is not None and number > fault}
+    if fields is None:
+        return Row(number, "", "", line.lstrip("> "), "", "", "", **where)
+    said = event_text(event) if event else " ".join(fields.move)
+    score, total = [*fields.numbers, "", ""][:2]
+    return Row(number, fields.nick, fields.rack or "", said, event["kind"] if event else "", score, total, **where)
+
+
+def seats_of(text: str, board: Optional[dict[str, Any]], events: list[dict[str, Any]]) -> list[dict[str, Any]]:
+    """Both players: their names, their totals, and the tiles that their last line leaves them with, if it says so."""
+    lines = drafts.lines_of(text)
+    totals = {event["nick"]: event["total"] for event in events}
+    last = {event["nick"]: drafts.fields_of(lines[event["line"] - 1]) for event in events if event["kind"] not in ("challenge", "time", "last rack")}
+    found = []
+    for player in drafts.players_of(text):
+        fields = last.get(player.nick)
+        found.append({"nick": player.nick, "name": player.name, "total": totals.get(player.nick, 0), "kept": drafts.kept_tiles(fields) if fields else None})
+    return found
+
+
 def event_text(event: dict[str, Any]) -> str:
     """What happened, in a few words."""
     kind = event["kind"]
     if kind == "play":
         return f"{event['place']} {event['text']}"
-    named = {"pass": "passes", "withdraw": "takes the play back", "challenge": "challenge", "time": "time penalty"}
+    named = {"pass": "passes", "withdraw": "takes the play back", "challenge": "bonus for a challenge", "time": "penalty for time"}
     if kind == "exchange":
         tiles = event.get("tiles")
         return f"exchanges {tiles}" if tiles else f"exchanges {event.get('number')}"
@@ -87,8 +136,10 @@ class Change:
 
 @dataclass(frozen=True)
 class Repair:
-    """A repair, with the sheet on which it has been made."""
+    """A repair, with the sheet on which it has been made; whether it takes a line out, and whether only an amount is another one."""
 
+    is_without: bool
+    is_amount: bool
     changes: list[Change]
     right: int
     numbers: int
@@ -97,13 +148,16 @@ class Repair:
     text: str = field(repr=False)
 
 
-def repairs_of(answer: dict[str, Any], sheet: str, most: int = 5) -> list[Repair]:
-    """The likeliest repairs of a sheet, the likeliest first."""
+def repairs_of(answer: dict[str, Any], sheet: str, is_righted: bool, most: int = 5) -> list[Repair]:
+    """The likeliest repairs of a sheet, the likeliest first. One that takes a line out is among them only if there is no other, and not if the right numbers
+    alone explain the sheet."""
     whole = [(slip, [slip]) for slip in (answer.get("sheet_slips") or []) + (answer.get("line_slips") or [])]
     found = whole + [(it, [it]) for it in answer.get("repairs") or []] + [(it, it["changes"]) for it in answer.get("pairs") or []]
     if answer.get("chain"):
         found.append((answer["chain"], answer["chain"]["changes"]))
-    return [_repair(it, changes, sheet) for it, changes in sorted(found, key=_cost)[:most]]
+    repairs = [_repair(it, changes, sheet) for it, changes in sorted(found, key=_cost)]
+    others = [it for it in repairs if not it.is_without]
+    return (others if others or is_righted else repairs)[:most]
 
 
 def _cost(found: tuple[dict[str, Any], list[dict[str, Any]]]) -> int:
@@ -122,7 +176,9 @@ def _repair(answer: dict[str, Any], changes: list[dict[str, Any]], sheet: str) -
                 text[number - 1] = line
         else:
             text[at : at + len(gone)] = come
-    return Repair(shown, evidence["numbers_right"], evidence["numbers"], len(evidence["wrong"]), evidence["unlisted"], "\n".join(text))
+    is_without = any(change["slip"] in TAKEN_OUT for change in changes)
+    is_amount = [change["slip"] for change in changes] == ["other amount"]
+    return Repair(is_without, is_amount, shown, evidence["numbers_right"], evidence["numbers"], len(evidence["wrong"]), evidence["unlisted"], "\n".join(text))
 
 
 def _edit(change: dict[str, Any], lines: list[str]) -> tuple[list[int], list[str], int]:
@@ -149,3 +205,11 @@ def _with_place(line: str, place: Optional[str]) -> str:
 def _heading(change: dict[str, Any]) -> str:
     where = {"before": "before line", "after": "after line"}.get(change.get("at", "on"), "line")
     return sentence(f"{where} {change['line']}: {change['slip']}")
+
+
+def best_of(top: Optional[dict[str, Any]], most: int = 10) -> list[dict[str, Any]]:
+    """The best plays, of those that differ only in which tile is the blank the first one."""
+    found: dict[tuple[str, str, int], dict[str, Any]] = {}
+    for play in (top or {}).get("plays") or []:
+        found.setdefault((play["place"], play["text"].upper(), play["score"]), play)
+    return list(found.values())[:most]

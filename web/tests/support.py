@@ -21,6 +21,7 @@ EXAMPLES = ROOT / "examples"
 GAME = (EXAMPLES / "game.gcg").read_text()
 PROGRAM = os.environ.get("REFEREE") or str(ROOT / "crates" / "referee" / "out" / "referee")
 PICTURES = os.environ.get("TABLE_PICTURES")
+ENTERED = GAME.replace("#player2 Bob Bob Ray\n", "#player2 Bob Bob Ray\n#lexicon words\n")
 WRONG_PLACE = GAME.replace("10F NOD", "10G NOD")
 WRONG_SCORE = GAME.replace("+28 28", "+29 28", 1)
 EVENT = re.compile(r"^>(\w+): (?:([A-Z?]+) )?(.*) ([+-]\d+) (-?\d+)$")
@@ -135,7 +136,7 @@ class Client:
     """Somebody with a browser that keeps one cookie and sends forms."""
 
     def __init__(self, page: Page) -> None:
-        self.page, self.cookie, self.token, self.headers = page, "", "", http.client.HTTPMessage()
+        self.page, self.cookie, self.token, self.address, self.headers = page, "", "", "", http.client.HTTPMessage()
 
     def ask(self, method: str, path: str, body: bytes | str | None = None, **headers: str) -> tuple[int, str]:
         """A request and its answer."""
@@ -159,7 +160,13 @@ class Client:
         return self.ask("GET", path, **headers)
 
     def post(self, path: str, fields: dict[str, str], **headers: str) -> tuple[int, str]:
-        """A form that is sent. The first one fetches a token."""
+        """A form that is sent, and the page to which it leads. The first one fetches a token."""
+        status, text = self.send(path, fields, **headers)
+        self.address = self.headers.get("Location", "")
+        return self.get(self.address, **headers) if status == 303 else (status, text)
+
+    def send(self, path: str, fields: dict[str, str], **headers: str) -> tuple[int, str]:
+        """A form that is sent, and its own answer."""
         if not self.token:
             self.get("/game")
         body = urlencode({"token": self.token} | fields)

@@ -13,7 +13,7 @@ import time
 import unittest
 from pathlib import Path
 
-from support import EXAMPLES, GAME, PROGRAM, WRONG_PLACE, WRONG_SCORE, Client, Page, draft_in, events, shared_page, slow_program, words_in
+from support import ENTERED, EXAMPLES, GAME, PROGRAM, WRONG_PLACE, WRONG_SCORE, Client, Page, draft_in, events, shared_page, slow_program, words_in
 
 MIB = 1 << 20
 
@@ -60,11 +60,11 @@ class Entering(Asking):
             draft, text = self.added(draft, player=who, **fields)
             known.append(event["line"])
             self.assertEqual([line for line in draft.splitlines() if line.startswith(">")], known, words_in(text))
-        self.assertEqual(draft, GAME)
+        self.assertEqual(draft, ENTERED)
         self.assertIn("The game is complete", words_in(text))
         self.assertEqual(len(known), 45)
         status, kept = self.client.post("/game", {"do": "keep", "draft": draft})
-        self.assertEqual((status, kept), (200, GAME))
+        self.assertEqual((status, kept), (200, ENTERED))
         self.assertIn('attachment; filename="ann-bob.gcg"', self.client.headers["Content-Disposition"])
 
     def test_codes(self) -> None:
@@ -75,7 +75,7 @@ class Entering(Asking):
             typed = re.sub(r" [+-]\d+ -?\d+$", "", event["line"]).partition(": ")[2].removeprefix(event["rack"]).strip()
             draft, text = self.added(draft, player=event["player"], kind="play", move=f"{typed} {number}".strip(), rack=event["rack"])
             self.assertIn(event["line"], draft, words_in(text))
-        self.assertEqual(draft, GAME)
+        self.assertEqual(draft, ENTERED)
 
     def test_bonus(self) -> None:
         """The points of a challenge may be left open if the rules allow only one number."""
@@ -158,14 +158,15 @@ class Entering(Asking):
         text = self.post("/game", do="read", draft=bad)
         self.assertIn(">Bob: CELNOOT 9G ONCE +24 24\n>Ann: ADLNORS 10F NOX\n>Bob: AFHLOTW 10J FLOAT\n", draft_in(text))
         self.assertIn("Line 8 does not stand", words_in(text))
-        self.assertIn("Take line 8 out", words_in(text))
+        self.assertIn("Correct line 8", words_in(text))
+        self.assertNotIn("Take line", words_in(text))
         text = self.post("/game", do="cut-8", draft=draft_in(text))
         self.assertNotIn("NOX", draft_in(text))
         self.assertIn("It is Ann's turn, not Bob's", words_in(text))
 
     def test_empty(self) -> None:
         """Nothing and nonsense end in a page too."""
-        status, _ = self.client.post("/game", {"do": "open", "game": " "})
+        status, _ = self.client.send("/game", {"do": "open", "game": " "})
         self.assertEqual(status, 303)
         for draft in ("", "x", ">", ">:", ">Ann:", ">Ann: (", "#player1", ">A: 8E", "\0", ">Ann: 8E W 1 2 3", "é\n>Ann: 8E é\n", ">Ann: (challenge)\n", ">Ann: -8 +9999999 1\n"):
             for do in ("read", "undo", "add", "cut-1", "cut-99", "square-8E", "square-zz", "what", "keep"):
@@ -196,8 +197,9 @@ class Checking(Asking):
         self.assertEqual(self.kept(text, "corrected"), GAME)
         body = b'--x\r\nContent-Disposition: form-data; name="token"\r\n\r\n%s\r\n--x\r\nContent-Disposition: form-data; name="game-file"; filename="g.gcg"\r\n\r\n%s\r\n--x--\r\n'
         sent = body % (self.client.token.encode(), WRONG_SCORE.replace("\n", "\r\n").encode())
-        status, text = self.client.ask("POST", "/sheet", sent, Content_Type="multipart/form-data; boundary=x")
-        self.assertEqual(status, 200)
+        status, _ = self.client.ask("POST", "/sheet", sent, Content_Type="multipart/form-data; boundary=x")
+        self.assertEqual(status, 303)
+        text = self.client.get(self.client.headers["Location"])[1]
         self.assertEqual(self.kept(text, "corrected"), GAME.replace("\n", "\r\n"))
 
     def kept(self, text: str, what: str) -> str:
@@ -229,7 +231,7 @@ class Checking(Asking):
             re.sub(r" (?:(\d+)([A-O])|([A-O])(\d+)) ", r" \2\1\4\3 ", GAME): "rows and columns interchanged",
         }
         for sheet, slip in cases.items():
-            text = self.post("/sheet", game=sheet)
+            text = self.post("/sheet", game=sheet, look="1")
             self.assertIn("Take this change", words_in(text), slip)
             self.assertIn(slip, words_in(text))
             found = re.search(r'id="repairs".*?name="game-kept" value="([^"]*)"', text, re.DOTALL)
@@ -254,15 +256,14 @@ class Checking(Asking):
         self.assertIn("The sheets agree.", words_in(self.post("/two", first=GAME, second=GAME)))
         self.assertIn("The sheets agree.", words_in(self.post("/two", first=drafted(GAME), second=GAME)))
         self.assertIn("Two sheets are needed", words_in(self.post("/two", first=GAME, second="")))
-        self.assertIn("A sheet cannot be read.", words_in(self.post("/two", first=GAME, second=">Ann Lee: x\n")))
+        self.assertIn("The second sheet has no game that can be read.", words_in(self.post("/two", first=GAME, second=">Ann Lee: x\n")))
 
     def test_challenge(self) -> None:
-        self.assertRegex(words_in(self.post("/challenge", words="nod, Zoo end")), r"^.*✓ Acceptable NOD, ZOO, END")
+        self.assertRegex(words_in(self.post("/challenge", words="nod, Zoo end")), r"^.*✓ Acceptable NOD, ZOO, END by the list words: 2,077 words")
         text = words_in(self.post("/challenge", words="nod zyx"))
         self.assertIn("✗ Not acceptable NOD, ZYX", text)
         self.assertNotIn("NOD acceptable", text)
         self.assertIn("NOD acceptable ZYX not acceptable", words_in(self.post("/challenge", words="nod zyx", each="1")))
-        self.assertIn("Not a word", words_in(self.post("/challenge", words="n0d")))
         self.assertIn("Which words are challenged?", words_in(self.post("/challenge", words=" , ")))
 
     def test_view(self) -> None:
@@ -304,7 +305,7 @@ class Keeping(Asking):
                 self.assertIn(part, policy.split("; "), path)
             self.assertEqual(self.client.headers["X-Frame-Options"], "DENY")
             self.assertEqual(self.client.headers["X-Content-Type-Options"], "nosniff")
-            self.assertEqual(self.client.headers["Cache-Control"], "no-cache" if "static" in path else "no-store")
+            self.assertEqual(self.client.headers["Cache-Control"], "no-cache" if "static" in path else "private, max-age=0")
         self.client = Client(self.page)
         self.client.get("/sheet")
         self.assertRegex(self.client.headers["Set-Cookie"], r"table=[\w-]+; HttpOnly; Path=/; SameSite=Strict")
@@ -384,7 +385,11 @@ class Limits(unittest.TestCase):
         self.addCleanup(page.close)
         status, text = Client(page).post("/sheet", {"game": WRONG_PLACE})
         self.assertEqual(status, 200)
+        self.assertIn("It takes longer to find it. Go on looking", words_in(text))
+        self.assertIn("Line 8 does not stand.", words_in(text))
+        status, text = Client(page).post("/sheet", {"game": WRONG_PLACE, "look": "1"})
         self.assertIn("The likely slip was not found in time", words_in(text))
+        self.assertNotIn("referee repair", words_in(text))
 
     def test_others_go_on(self) -> None:
         """While one person's request is slow, another one is answered by the same worker."""
@@ -431,7 +436,7 @@ class Limits(unittest.TestCase):
                 status, text = client.post("/game", {"do": "add", "draft": draft, **fields})
                 times.append(time.monotonic() - start)
                 draft = draft_in(text)
-            self.assertEqual(draft, GAME)
+            self.assertEqual(draft, ENTERED)
             print(f"400,000 words: a line is answered in {1000 * sum(times) / len(times):.0f} ms on average, {1000 * max(times):.0f} ms at most")
 
 
