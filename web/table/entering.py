@@ -312,13 +312,18 @@ def _whose(text: str, entry: Entry) -> list[str]:
 
 def _tried(text: str, entry: Entry, nick: str) -> View:
     """A game with a line of this player, or why it is refused."""
-    entry = _with_bonus(text, entry, nick)
-    line = entry.line(nick)
+    amounts = _bonuses(text, entry, nick) if entry.kind == "challenge" and not entry.points else []
+    if len(amounts) > 1:
+        return View(text, (f"The points are missing. The bonus is {' or '.join(amounts)}.",), f">{nick}: {entry.rack} (challenge)".replace("  ", " "))
+    if entry.kind == "time" and not entry.points:
+        return View(text, ("The points of the penalty are missing.",), f">{nick}: (time)")
+    line = replace(entry, points=amounts[0] if amounts else entry.points).line(nick)
     longer = drafts.with_line(text, line)
-    filled = judge().filled(longer)
-    answer = judge().verdict(filled.judged)
-    if answer["verdict"] in ("legal", "unsettled") and len(answer["events"]) == len(drafts.event_lines(filled.judged)):
-        return View(filled.judged)
+    answer = judge().line(longer)
+    if answer["verdict"] in ("legal", "unsettled"):
+        whole = judge().filled(longer).judged
+        if len(judge().verdict(whole)["events"]) == len(drafts.event_lines(whole)):
+            return View(whole)
     return View(text, _plainly(judge().reasons(longer)) or (shown.verdict_text(answer),), line)
 
 
@@ -327,14 +332,11 @@ def _plainly(reasons: list[str]) -> tuple[str, ...]:
     return tuple(re.sub(r"^Line \d+: ", "", reason) for reason in reasons)
 
 
-def _with_bonus(text: str, entry: Entry, nick: str) -> Entry:
-    """A challenge whose points are not typed gets them, if the rules allow only one number."""
-    if entry.kind != "challenge" or entry.points:
-        return entry
+def _bonuses(text: str, entry: Entry, nick: str) -> list[str]:
+    """The points that the rules allow for a challenge whose points are not typed."""
     longer = drafts.with_line(text, entry.line(nick) + " 0")
     facts = judge().line(longer, len(drafts.lines_of(longer)) - 1).get("facts") or []
-    amounts = [amount for fact in facts if fact["name"] == "Bonus" for amount in fact.get("amounts") or []]
-    return replace(entry, points=str(amounts[0])) if len(amounts) == 1 else entry
+    return [str(amount) for fact in facts if fact["name"] == "Bonus" for amount in fact.get("amounts") or []]
 
 
 # The page of a game.

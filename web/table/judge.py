@@ -20,6 +20,7 @@ QUICK_SECONDS = 10.0
 START_SECONDS = 600.0
 SOON = 3.0
 ASIDE = "referee: "
+NUMBERS = ("WrongScore", "WrongTotal")
 
 
 class TooLong(Exception):
@@ -169,37 +170,45 @@ class Judge:
             return _why(bad)
 
     def righted(self, draft: str) -> Optional[str]:
-        """The record with the right numbers, if nothing else is wrong with it."""
+        """The record with the right numbers, if only numbers are wrong and that is found soon."""
+        if (self.line(draft).get("fault") or {}).get("name") not in NUMBERS:
+            return None
         try:
-            answer = self._ask("fill", draft=draft, filled=True)
-        except BadInput:
+            answer = self._ask_long("fill", most=SOON, draft=draft, filled=True)
+        except (BadInput, TooLong):
             return None
         return answer.text if answer["verdict"] in ("legal", "unsettled") and answer.get("wrong") else None
 
     def ahead(self, draft: str) -> Optional[dict[str, Any]]:
         """Who is ahead, and by how many points."""
-        try:
-            found: Optional[dict[str, Any]] = self._ask("fill", draft=draft).get("ahead")
-            return found
-        except BadInput:
-            return None
+        found: Optional[dict[str, Any]] = self._fill(draft).get("ahead")
+        return found
 
     def filled(self, draft: str) -> Filled:
-        """A draft with the numbers that are missing, up to the line that the rules refuse."""
-        holes = {number: fields.missing for number, line in enumerate(drafts.lines_of(draft), 1) if (fields := drafts.fields_of(line)) and fields.missing}
+        """A draft with the numbers that are missing, up to the line that the rules refuse. Only what is before that line is filled: whether a bonus would
+        explain the sums of a game that does not stand may take long to find, and is not asked here."""
+        lines = drafts.lines_of(draft)
+        holes = {number: fields.missing for number, line in enumerate(lines, 1) if (fields := drafts.fields_of(line)) and fields.missing}
         if not holes:
             return Filled(draft, draft, 0)
-        try:
-            answer = self._ask("fill", draft=draft)
-        except BadInput as bad:
-            answer = _why(bad)
-        put_in = {it["line"]: it for it in answer.get("lines") or []}
-        lines = drafts.lines_of(draft)
+        verdict = self.line(draft)
+        refused = (verdict.get("line") or 1) if verdict["verdict"] in ("illegal", "bad record") else len(lines) + 1
+        if (verdict.get("fault") or {}).get("name") in NUMBERS:
+            answer = self._fill(draft)
+            refused = answer.get("line") or len(lines) + 1
+        else:
+            answer = self._fill("\n".join(lines[: refused - 1]) + "\n")
+        put_in = {it["line"]: it for it in answer.get("lines") or [] if it["line"] < refused}
         whole = [_with_ends(line, put_in[number]) if number in put_in else line for number, line in enumerate(lines, 1)]
         zeros = {number: 0 for number, many in holes.items() if many == 2 and number not in put_in}
-        refused = answer.get("line") or len(lines) + 1
-        text = "\n".join(whole[: refused - 1] + lines[refused - 1 :])
-        return Filled(text, _with_numbers("\n".join(whole), zeros), sum(1 + it["score_put_in"] for number, it in put_in.items() if number < refused))
+        return Filled("\n".join(whole), _with_numbers("\n".join(whole), zeros), sum(1 + it["score_put_in"] for it in put_in.values()))
+
+    def _fill(self, draft: str) -> Answer:
+        """What `fill` says of a draft."""
+        try:
+            return self._ask("fill", draft=draft)
+        except BadInput as bad:
+            return _why(bad)
 
     def next(self, game: str) -> Next:
         """What the next line is about; nothing is known of it after a text that is not a draft."""

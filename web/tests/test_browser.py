@@ -10,7 +10,7 @@ from browsing import Browser
 from selenium.webdriver.common.action_chains import ActionChains
 from selenium.webdriver.common.by import By
 from selenium.webdriver.common.keys import Keys
-from support import EXAMPLES, GAME, WRONG_PLACE, events, shared_page
+from support import ENTERED, EXAMPLES, GAME, WRONG_PLACE, events, shared_page
 
 
 class Browsing(unittest.TestCase):
@@ -40,6 +40,8 @@ class Browsing(unittest.TestCase):
     def enter(self, event: dict[str, str], player: str = "") -> None:
         """Enters an event in the form."""
         browser = self.browser
+        if closed := browser.all("details.after:not([open]) > summary"):
+            closed[0].click()
         if player:
             browser.choose(f"input[name=player][value={player}]")
         browser.choose(f"#kind-{event['kind']}")
@@ -66,10 +68,10 @@ class Browsing(unittest.TestCase):
             if mistaken:
                 self.mistake(event, player)
             self.enter(event, player)
-            self.assertIn(event["line"], self.draft(), self.browser.text(".side"))
-        self.assertEqual(self.draft(), GAME)
-        self.assertIn("The game is complete", self.browser.text("#last"))
-        self.assertEqual(self.kept(), GAME)
+            self.assertIn(event["line"], self.draft(), self.browser.text(".told"))
+        self.assertEqual(self.draft(), ENTERED)
+        self.assertIn("Bob Ray won by 34 The game is complete.", self.browser.text("#last"))
+        self.assertEqual(self.kept(), ENTERED)
 
     def mistake(self, event: dict[str, str], player: str) -> None:
         """Enters something else, which is refused in words, or taken and undone."""
@@ -85,8 +87,8 @@ class Browsing(unittest.TestCase):
             self.assertEqual(len(self.browser.all("#refused")), 1)
             self.assertGreater(len(self.browser.text("#refused")), 40)
         else:
-            self.browser.press("Undo the last line")
-            self.assertIn("The last line is taken back", self.browser.text(".side"))
+            self.browser.leave(lambda: self.browser.find("#last button[value=undo]").click())
+            self.assertIn("Taken back: >", self.browser.text(".told"))
             self.assertEqual(self.draft(), before)
             self.assertEqual(self.browser.find("#rack").get_attribute("value"), event["rack"])
 
@@ -148,20 +150,23 @@ class WithScripts(Browsing):
         browser.open("/game")
         browser.leave(lambda: keys("Ann Lee", Keys.TAB, "Bob Ray", Keys.ENTER))
         for number, event in enumerate(events()):
+            if event["kind"] == "time":
+                browser.find("details.after > summary").send_keys(Keys.ENTER)
+                browser.find("#move").send_keys("")
             self.assertEqual(browser.focused(), "move")
             if number == 0 or event["kind"] == "time":
                 self.choose_player(event["player"])
             typed = re.sub(r" -?\d+$", "", event["line"]) if event["points"] else re.sub(r" [+-]\d+ -?\d+$", "", event["line"])
             typed = typed.partition(": ")[2].removeprefix(event["rack"]).strip()
             browser.leave(lambda: keys(typed, Keys.TAB, event["rack"], Keys.ENTER))
-            self.assertIn(event["line"], self.draft(), browser.text(".side"))
-        self.assertEqual(self.draft(), GAME)
+            self.assertIn(event["line"], self.draft(), browser.text(".told"))
+        self.assertEqual(self.draft(), ENTERED)
         for _ in range(20):
             keys(Keys.TAB)
             if browser.driver.switch_to.active_element.text == "Keep the record":
                 break
         keys(Keys.ENTER)
-        self.assertEqual(browser.downloaded("ann-bob.gcg"), GAME)
+        self.assertEqual(browser.downloaded("ann-bob.gcg"), ENTERED)
 
     def choose_player(self, nick: str) -> None:
         """From the field of the play back to the players, and with the arrows to the one who is meant."""

@@ -84,7 +84,8 @@ class Entering(Asking):
         at = GAME.index(">Bob: CNORTUU (challenge)")
         draft, text = self.added(GAME[:at], kind="challenge", rack="CNORTUU")
         self.assertEqual(draft, GAME[:at])
-        self.assertIn("so the bonus can be 5 or 10", words_in(text))
+        self.assertIn("The points are missing. The bonus is 5 or 10.", words_in(text))
+        self.assertNotIn("0 is written", words_in(text))
 
     def test_mistakes(self) -> None:
         """What is wrong is said, and the line is not taken."""

@@ -3,7 +3,7 @@
 "use strict";
 
 const move = document.getElementById("move");
-const table = document.getElementById("game");
+const table = document.getElementById("entered");
 const places = /^\s*(?:\d{1,2}[A-Oa-o]|[A-Oa-o]\d{1,2})?\s*/;
 const PREFIX = "game ";
 
