@@ -57,8 +57,10 @@ def checked(written: str, asked: Mapping[str, str]) -> str:
     """What a sheet says, and what it should say."""
     filled = judge().filled(written)
     text, has_holes = filled.judged, drafts.has_holes(filled.text)
-    verdict = judge().verdict(text)
+    verdict: dict[str, Any] = judge().verdict(text)
     answer = judge().audit(text)
+    if answer["verdict"] == "no game":
+        verdict = {"verdict": "no game"}
     faulty = verdict["verdict"] in ("illegal", "bad record")
     corrected = answer.text if answer.text is not None and answer.text != text else None
     return render_template(

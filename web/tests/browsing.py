@@ -19,11 +19,13 @@ SIZES = ((1200, 900), (360, 740))
 class Browser:
     """Headless Chromium."""
 
-    def __init__(self, url: str, scripts: bool = True) -> None:
+    def __init__(self, url: str, scripts: bool = True, profile: Optional[Path] = None) -> None:
         self.url, self.folder = url, Path(tempfile.mkdtemp(prefix="table-kept-"))
         options = webdriver.ChromeOptions()
         for word in ("--headless=new", "--no-sandbox", "--hide-scrollbars", "--disable-gpu", "--disable-dev-shm-usage", "--disable-renderer-backgrounding", "--disable-extensions", "--window-size=1200,900", "--lang=en"):
             options.add_argument(word)
+        if profile:
+            options.add_argument(f"--user-data-dir={profile}")
         preferences: dict[str, Any] = {"download.default_directory": str(self.folder)}
         if not scripts:
             preferences["profile.managed_default_content_settings.javascript"] = 2
@@ -93,13 +95,17 @@ class Browser:
             return False
 
     def downloaded(self, name: str) -> str:
+        """A text that the browser keeps."""
+        return self.downloaded_bytes(name).decode()
+
+    def downloaded_bytes(self, name: str) -> bytes:
         """A file that the browser keeps."""
         path = self.folder / name
         for _ in range(400):
             if path.exists() and not list(self.folder.glob("*.crdownload")):
-                text = path.read_text()
+                content = path.read_bytes()
                 path.unlink()
-                return text
+                return content
             time.sleep(0.05)
         raise AssertionError(f"{name} was not kept, but {list(self.folder.iterdir())}")
 

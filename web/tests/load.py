@@ -13,7 +13,7 @@ import time
 from collections import defaultdict
 from pathlib import Path
 
-from support import GAME, WRONG_PLACE, Client, Page, draft_in, events, words_in
+from support import ENTERED, GAME, WRONG_PLACE, Client, Page, draft_in, events, words_in
 
 EVENTS = list(events())
 
@@ -56,7 +56,7 @@ class Person(threading.Thread):
             self.expect(event["line"] in draft, event["line"])
             if self.random.random() < 0.1:
                 self.aside()
-        self.expect(draft == GAME, "the game")
+        self.expect(draft == ENTERED, "the game")
 
     def aside(self) -> None:
         """Something else."""

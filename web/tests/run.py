@@ -7,7 +7,7 @@ import time
 import unittest
 from pathlib import Path
 
-NAMES = ("test_requests", "test_browser", "test_looks", "test_load")
+NAMES = ("test_requests", "test_lines", "test_start", "test_browser", "test_kept", "test_looks", "test_load")
 
 
 class Telling(unittest.TextTestResult):

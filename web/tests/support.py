@@ -80,12 +80,12 @@ sys.exit(program.wait())
 class Page:
     """A page that start.sh has started, with the words of the example game, or others."""
 
-    def __init__(self, words: Optional[Path] = None, workers: int = 2, **settings: str) -> None:
+    def __init__(self, words: Optional[Path] = None, workers: int = 2, options: tuple[str, ...] = (), **settings: str) -> None:
         self.folder = Path(tempfile.mkdtemp(prefix="table-"))
         self.words = words or Path(shutil.copy(EXAMPLES / "words.txt", self.folder))
         self.port = free_port()
         self.url = f"http://127.0.0.1:{self.port}"
-        command = [str(ROOT / "web" / "start.sh"), "--port", str(self.port), "--workers", str(workers), str(self.words)]
+        command = [str(ROOT / "web" / "start.sh"), "--port", str(self.port), "--workers", str(workers), *options, str(self.words)]
         environment = os.environ | {"REFEREE": PROGRAM} | settings
         self.log = open(self.folder / "log", "w+")
         self.process = subprocess.Popen(command, stdout=self.log, stderr=subprocess.STDOUT, env=environment)
