@@ -122,6 +122,7 @@ function fill(event) {
 
 if (move) {
   document.querySelector(".board").addEventListener("click", fill);
+  window.visualViewport?.addEventListener("resize", () => document.activeElement === move && move.scrollIntoView({ block: "nearest" }));
 }
 
 // A click anywhere on a line of the sheet opens it.
