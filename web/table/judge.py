@@ -162,10 +162,10 @@ class Judge:
         except BadInput:
             return None
 
-    def audit(self, game: str) -> Answer:
+    def audit(self, game: str, is_patient: bool) -> Answer:
         """The wrong numbers of a sheet, with the corrected sheet as its text, if that stands. A bonus that would explain them may take long to find."""
         try:
-            return self._ask_long("audit", game=game, corrected=True)
+            return self._ask_long("audit", most=None if is_patient else SOON, game=game, corrected=True)
         except BadInput as bad:
             return _why(bad)
 
@@ -235,10 +235,10 @@ class Judge:
             return _why(bad)
 
     def page(self, game: str) -> str:
-        """The page of a game, with the likely repair, if that is found in time."""
+        """The page of a game, with the likely repair, if that is found soon."""
         for likely in (True, False):
             try:
-                return self._ask_long("page", game=game, likely=likely).text or ""
+                return self._ask_long("page", most=SOON if likely else None, game=game, likely=likely).text or ""
             except TooLong:
                 if not likely:
                     raise

@@ -7,6 +7,7 @@ import re
 from typing import Any, Mapping, Optional
 
 from flask import Blueprint, Response, g, render_template, request
+from referee import Answer
 
 from . import drafts, ruling, shown
 from .address import Page, led_to, packed, unpacked
@@ -58,7 +59,7 @@ def checked(written: str, asked: Mapping[str, str]) -> str:
     filled = judge().filled(written)
     text, has_holes = filled.judged, drafts.has_holes(filled.text)
     verdict: dict[str, Any] = judge().verdict(text)
-    answer = judge().audit(text)
+    answer, is_found = _audited(text, bool(asked.get("look")))
     if answer["verdict"] == "no game":
         verdict = {"verdict": "no game"}
     faulty = verdict["verdict"] in ("illegal", "bad record")
@@ -80,8 +81,16 @@ def checked(written: str, asked: Mapping[str, str]) -> str:
         stands=answer["verdict"] == "legal",
         is_game=verdict["verdict"] not in ("bad record", "no game"),
         taken=bool(asked.get("taken")),
-        **(_repairs(filled.text, corrected is not None, bool(asked.get("look"))) if faulty else {}),
+        **_repairs(filled.text, corrected is not None, bool(asked.get("look")), faulty, is_found),
     )
+
+
+def _audited(text: str, is_patient: bool) -> tuple[Answer, bool]:
+    """The wrong numbers of a sheet, and whether they are found; else only the verdict, until they are."""
+    try:
+        return judge().audit(text, is_patient), True
+    except TooLong:
+        return Answer(verdict="later"), False
 
 
 def _line_text(text: str, line: Any) -> str:
@@ -98,8 +107,12 @@ def _headline(verdict: dict[str, Any], answer: dict[str, Any]) -> str:
     return shown.verdict_text(verdict)
 
 
-def _repairs(text: str, is_righted: bool, is_patient: bool) -> dict[str, Any]:
-    """The likely repairs of a sheet that does not stand; or that they take longer, or took too long."""
+def _repairs(text: str, is_righted: bool, is_patient: bool, is_faulty: bool, is_found: bool) -> dict[str, Any]:
+    """The likely repairs of a sheet that does not stand; or that they, or the wrong numbers, take longer, or took too long."""
+    if not is_found:
+        return {"too_long": True} if is_patient else {"later": True}
+    if not is_faulty:
+        return {}
     try:
         found = judge().repairs(text, is_patient)
     except TooLong:

@@ -209,7 +209,7 @@ def _heading(change: dict[str, Any]) -> str:
 
 def best_of(top: Optional[dict[str, Any]], most: int = 10) -> list[dict[str, Any]]:
     """The best plays, of those that differ only in which tile is the blank the first one."""
-    found: dict[tuple[str, str, int], dict[str, Any]] = {}
+    found: dict[tuple[str, str], dict[str, Any]] = {}
     for play in (top or {}).get("plays") or []:
-        found.setdefault((play["place"], play["text"].upper(), play["score"]), play)
+        found.setdefault((play["place"], play["text"].upper()), play)
     return list(found.values())[:most]

@@ -285,7 +285,7 @@ class Offering(Asking):
         text = words_in(self.post("/view", game=THREE, rack="AE?"))
         found = re.findall(r"\b(\d{1,2}[A-O]|[A-O]\d{1,2}) ([A-Za-z.]+) (\d+)", text.split("With")[1].split("Keep the page")[0])
         self.assertGreater(len(found), 3)
-        self.assertEqual(len({(place, word.upper(), score) for place, word, score in found}), len(found))
+        self.assertEqual(len({(place, word.upper()) for place, word, _ in found}), len(found))
 
 
 class Naming(Asking):

@@ -386,10 +386,10 @@ class Limits(unittest.TestCase):
         self.addCleanup(page.close)
         status, text = Client(page).post("/sheet", {"game": WRONG_PLACE})
         self.assertEqual(status, 200)
-        self.assertIn("It takes longer to find it. Go on looking", words_in(text))
+        self.assertIn("What explains it takes longer to find. Go on looking", words_in(text))
         self.assertIn("Line 8 does not stand.", words_in(text))
         status, text = Client(page).post("/sheet", {"game": WRONG_PLACE, "look": "1"})
-        self.assertIn("The likely slip was not found in time", words_in(text))
+        self.assertIn("What explains it was not found in time", words_in(text))
         self.assertNotIn("referee repair", words_in(text))
 
     def test_others_go_on(self) -> None:

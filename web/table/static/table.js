@@ -147,8 +147,10 @@ for (const file of document.querySelectorAll("input[type=file]")) {
 // What takes long comes when it is there.
 async function fetchLater(form) {
   const answer = await fetch(form.action, { method: "POST", body: new URLSearchParams(new FormData(form)) });
-  const found = new DOMParser().parseFromString(await answer.text(), "text/html").getElementById("repairs");
-  document.getElementById("later").replaceWith(...(found ? [document.importNode(found, true)] : []));
+  const found = new DOMParser().parseFromString(await answer.text(), "text/html").getElementById("found");
+  if (found) {
+    document.getElementById("found").replaceWith(document.importNode(found, true));
+  }
 }
 
 const later = document.querySelector("#later form");
