@@ -13,7 +13,7 @@ from selenium.webdriver.common.by import By
 from selenium.webdriver.remote.webelement import WebElement
 from selenium.webdriver.support.ui import WebDriverWait
 
-SIZES = ((1200, 900), (360, 740))
+SIZES = ((1200, 900), (360, 740), (320, 640))
 
 
 class Browser:

@@ -1,4 +1,4 @@
-"""How each page looks: contrast, labels, and that nothing is wider than the window, at 360 and 1,200 pixels, in light and in dark.
+"""How each page looks: contrast, labels, and that nothing is wider than the window, at 320, 360 and 1,200 pixels, in light and in dark.
 
 With TABLE_PICTURES=FOLDER a picture of each is written there, to be looked at.
 """
@@ -13,6 +13,7 @@ from browsing import SIZES, Browser
 from support import GAME, PICTURES, WRONG_PLACE, shared_page
 
 LOOKS = (Path(__file__).parent / "looks.js").read_text()
+PHONY = GAME[: GAME.index(">Bob: CELNOOT --")]
 HALF = "\n".join(GAME.split("\n")[:29]) + "\n"
 
 
@@ -49,6 +50,31 @@ class Looks(unittest.TestCase):
         self.browser.find("[name=each]").click()
         self.browser.press("Rule on it")
 
+    def asked(self) -> None:
+        self.given("/game", "Begin", first="Ann Lee", second="Bob Ray")
+        self.browser.find("input[name=player][value=Ann]").click()
+        self.put("#move", "8g qi")
+        self.put("#rack", "IQRST??")
+        self.browser.press("Enter")
+
+    def opened(self) -> None:
+        self.given("/game", "Go on", game=HALF)
+        self.browser.leave(lambda: self.browser.find("#line-20 button").click())
+
+    def no_longer(self) -> None:
+        self.opened()
+        self.put("#mend-move", "G5 AN")
+        self.browser.press("Correct it")
+
+    def beside(self) -> None:
+        self.given("/game", "Go on", game=PHONY)
+        self.browser.find("#challenge summary").click()
+        self.browser.press("Rule on it")
+
+    def results(self) -> None:
+        self.browser.open("/")
+        self.browser.press("The results")
+
     def best_plays(self) -> None:
         self.given("/view", "Show it", game=GAME)
         self.browser.find(".best summary").click()
@@ -71,17 +97,27 @@ class Looks(unittest.TestCase):
             "game": lambda: self.given("/game", "Go on", game=HALF),
             "over": lambda: self.given("/game", "Go on", game=GAME),
             "refused": self.refused,
+            "asked": self.asked,
+            "opened": self.opened,
+            "no-longer": self.no_longer,
+            "beside": self.beside,
+            "tonight": lambda: self.browser.open("/"),
+            "results": self.results,
+            "help": lambda: self.browser.open("/help"),
+            "blank": lambda: self.browser.open("/blank"),
             "faulty": lambda: self.given("/game", "Go on", game=WRONG_PLACE),
             "sheet": lambda: self.browser.open("/sheet"),
             "checked": lambda: self.given("/sheet", "Check it", game=WRONG_PLACE),
             "numbers": lambda: self.given("/sheet", "Check it", game=GAME.replace("+28 28", "+29 28", 1)),
             "right": lambda: self.given("/sheet", "Check it", game=GAME),
+            "one-number": lambda: self.given("/sheet", "Check it", game=GAME[: GAME.index(">Bob: AFHLOTW")].replace("+22 50", "+22 72")),
             "bad": lambda: self.given("/sheet", "Check it", game=">Ann Lee: 8E GAZE +28 28\n"),
             "two": lambda: self.browser.open("/two"),
             "compared": lambda: self.given("/two", "Compare them", first=WRONG_PLACE, second=GAME),
             "challenge": lambda: self.browser.open("/challenge"),
             "acceptable": lambda: self.given("/challenge", "Rule on it", words="nod zoo"),
             "not-acceptable": self.each_word,
+            "unread": lambda: self.given("/challenge", "Rule on it", words="8E W0RD"),
             "view": lambda: self.browser.open("/view"),
             "viewed": self.best_plays,
             "stale": self.stale,
@@ -95,7 +131,7 @@ class Looks(unittest.TestCase):
             self.browser.size(1200, 900, False)
             come()
             for width, height in SIZES:
-                for is_dark in (False, True):
+                for is_dark in (False, True) if width != 320 else (False,):
                     self.browser.size(width, height, is_dark)
                     with self.subTest(page=name, width=width, is_dark=is_dark):
                         self.assertEqual(self.browser.driver.execute_script(LOOKS), [])
