@@ -4,12 +4,13 @@ from __future__ import annotations
 import io
 import zipfile
 from dataclasses import dataclass
+from itertools import zip_longest
 from typing import Any
 
 from flask import Blueprint, Response, render_template, request
 
 from . import drafts
-from .forms import chosen, download, judge, judges
+from .forms import download, judges
 
 pages = Blueprint("evening", __name__)
 
@@ -30,16 +31,16 @@ class Result:
 @pages.post("/evening")
 def evening() -> Response | str:
     """The games of an evening as one archive, or their results."""
-    texts = [text.replace("\r\n", "\n") for text in request.form.getlist("game")[:MOST_GAMES] if text.strip()]
-    results = [result_of(text) for text in texts]
+    games = zip_longest(*(request.form.getlist(name)[:MOST_GAMES] for name in ("games", "lists", "rules-of")), fillvalue="")
+    results = [result_of(text.replace("\r\n", "\n"), words, rules) for text, words, rules in games if text.strip()]
     if request.form.get("what") == "archive":
         return download(archive_of(results), "games.zip", "application/zip")
     return render_template("results.html", here="home", results=results)
 
 
-def result_of(text: str) -> Result:
-    """What came of a game, by its own list."""
-    program = judges().of(judges().names(drafts.pragma_of(text, "lexicon"), chosen()[1]))
+def result_of(text: str, words: str = "", rules: str = "") -> Result:
+    """What came of a game, by its own list and rules."""
+    program = judges().of(judges().names(words or drafts.pragma_of(text, "lexicon"), rules))
     filled = program.filled(text)
     events = program.verdict(filled.judged).get("events") or []
     players = [*drafts.players_of(text), drafts.Player("?", "?"), drafts.Player("?", "?")][:2]

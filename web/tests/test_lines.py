@@ -2,9 +2,13 @@
 from __future__ import annotations
 
 import base64
+import http.client
+import io
 import re
 import unittest
+import zipfile
 import zlib
+from urllib.parse import urlencode
 
 from support import GAME, Page, draft_in, shared_page, words_in
 from test_requests import Asking
@@ -304,6 +308,27 @@ class Naming(Asking):
         self.assertIn("The sheet: Spring Cup, round 3, table 2, 2026-03-14", words_in(text))
         self.client.post("/game", {"do": "keep", "draft": draft})
         self.assertIn('filename="ann-bob-spring-cup-round-3-table-2-2026-03-14.gcg"', self.client.headers["Content-Disposition"])
+
+    def test_evening(self) -> None:
+        """The games of an evening as one archive, each with a name of its own, and their results."""
+        body = urlencode([("token", self.token()), ("what", "archive"), *(("games", game) for game in (GAME, THREE, THREE, "nonsense"))])
+        connection = http.client.HTTPConnection("127.0.0.1", self.page.port, timeout=60)
+        connection.request("POST", "/evening", body, {"Cookie": self.client.cookie, "Content-Type": "application/x-www-form-urlencoded"})
+        with zipfile.ZipFile(io.BytesIO(connection.getresponse().read())) as archive:
+            self.assertEqual(archive.namelist(), ["ann-bob.gcg", "ann-bob-2.gcg", "ann-bob-3.gcg", "game.gcg", "results.csv"])
+            self.assertEqual(archive.read("ann-bob.gcg").decode(), GAME)
+            rows = archive.read("results.csv").decode().splitlines()
+        self.assertEqual(rows[1], '"","Ann Lee","322","Bob Ray","356","Bob Ray won by 34"')
+        self.assertEqual(rows[2], '"","Ann Lee","50","Bob Ray","24","Ann Lee is ahead by 26"')
+        text = self.client.ask("POST", "/evening", urlencode([("token", self.client.token), ("games", THREE)]), Content_Type="application/x-www-form-urlencoded")[1]
+        self.assertIn("Ann Lee 50 Bob Ray 24 Ann Lee is ahead by 26", words_in(text))
+        formula = THREE.replace("Ann Lee", "=1+1")
+        self.assertIn("=1+1", words_in(self.client.ask("POST", "/evening", urlencode([("token", self.client.token), ("games", formula)]), Content_Type="application/x-www-form-urlencoded")[1]))
+
+    def token(self) -> str:
+        """The token of a form."""
+        self.client.get("/game")
+        return self.client.token
 
     def test_pages(self) -> None:
         """The help beside the field has a whole example, which is read; and there is a sheet to print."""

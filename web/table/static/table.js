@@ -90,12 +90,15 @@ function list() {
   const found = keys().sort((one, other) => kept(other).at - kept(one).at);
   document.getElementById("tonight").hidden = found.length === 0;
   document.querySelector(".games").replaceChildren(...found.map(row));
-  document.querySelector("#evening .texts").replaceChildren(...found.map(key => {
-    const text = document.createElement("textarea");
-    text.name = "game";
-    text.value = kept(key).text;
-    text.setAttribute("aria-label", "a game");
-    return text;
+  document.querySelector("#evening .texts").replaceChildren(...found.flatMap(key => {
+    const game = kept(key);
+    return [["games", game.text], ["lists", game.list || ""], ["rules-of", game.rules || ""]].map(([name, value]) => {
+      const field = document.createElement("textarea");
+      field.name = name;
+      field.value = value;
+      field.setAttribute("aria-label", name);
+      return field;
+    });
   }));
 }
 
