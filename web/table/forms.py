@@ -3,7 +3,6 @@ from __future__ import annotations
 
 import base64
 import binascii
-from typing import Optional
 
 from flask import Response, abort, current_app, g, make_response, request
 from referee import text_of

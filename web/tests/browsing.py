@@ -32,7 +32,7 @@ class Browser:
         options.add_experimental_option("prefs", preferences)
         options.set_capability("goog:loggingPrefs", {"browser": "ALL"})
         self.driver = webdriver.Chrome(options=options, service=Service(shutil.which("chromedriver") or "chromedriver"))
-        self.driver.set_page_load_timeout(60)
+        self.driver.set_page_load_timeout(180)
 
     def close(self) -> None:
         """Ends the browser."""
@@ -85,7 +85,7 @@ class Browser:
         """Does something that leads to a new page, and waits for that."""
         before = self.find("html")
         act()
-        WebDriverWait(self.driver, 60, 0.02).until(lambda _: self._is_new(before))
+        WebDriverWait(self.driver, 180, 0.02).until(lambda _: self._is_new(before))
 
     def _is_new(self, before: WebElement) -> bool:
         try:

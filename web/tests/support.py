@@ -126,9 +126,9 @@ _shared: list[Page] = []
 
 
 def shared_page() -> Page:
-    """A page that several tests use."""
+    """A page that several tests use, with time for long searches on a machine that does something else."""
     if not _shared:
-        _shared.append(Page())
+        _shared.append(Page(TABLE_SECONDS="60"))
     return _shared[0]
 
 

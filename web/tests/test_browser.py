@@ -10,6 +10,7 @@ from browsing import Browser
 from selenium.webdriver.common.action_chains import ActionChains
 from selenium.webdriver.common.by import By
 from selenium.webdriver.common.keys import Keys
+from selenium.webdriver.support.ui import WebDriverWait
 from support import ENTERED, EXAMPLES, GAME, WRONG_PLACE, events, shared_page
 
 
@@ -210,11 +211,18 @@ class Sheets(Browsing):
             self.browser.find("#game-file").send_keys(f"{folder}/sheet.gcg")
             self.browser.press("Check it")
         self.assertIn("Line 8 does not stand. >Ann: ADLNORS 10G NOD +22 50 The play scores 24, but 22 is written.", self.browser.text("#verdict"))
+        self.wait_for_repairs()
         self.assertIn("Line 8: one square off", self.browser.text("#repairs"))
         self.browser.press("Take this change")
         self.assertIn("The game stands, and it is complete.", self.browser.text("#verdict"))
         self.browser.button("Keep the sheet").click()
         self.assertEqual(self.browser.downloaded("ann-bob-repaired.gcg"), GAME)
+
+    def wait_for_repairs(self) -> None:
+        """Waits for what takes longer, or asks for it without scripts."""
+        if self.browser.all("#later") and not self.scripts:
+            self.browser.press("Go on looking")
+        WebDriverWait(self.browser.driver, 90, 0.2).until(lambda _: self.browser.all("#repairs"))
 
     def test_numbers(self) -> None:
         """A wrong number, and the corrected sheet to keep."""

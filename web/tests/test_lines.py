@@ -10,7 +10,7 @@ import zipfile
 import zlib
 from urllib.parse import urlencode
 
-from support import GAME, Page, draft_in, shared_page, words_in
+from support import GAME, draft_in, words_in
 from test_requests import Asking
 
 HEAD = "#player1 Ann Ann Lee\n#player2 Bob Bob Ray\n"

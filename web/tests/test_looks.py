@@ -57,12 +57,12 @@ class Looks(unittest.TestCase):
         self.put("#rack", "IQRST??")
         self.browser.press("Enter")
 
-    def opened(self) -> None:
+    def opened(self, line: int = 20) -> None:
         self.given("/game", "Go on", game=HALF)
-        self.browser.leave(lambda: self.browser.find("#line-20 button").click())
+        self.browser.leave(lambda: self.browser.find(f"#line-{line} button").click())
 
     def no_longer(self) -> None:
-        self.opened()
+        self.opened(17)
         self.put("#mend-move", "G5 AN")
         self.browser.press("Correct it")
 

@@ -128,6 +128,10 @@ if (move) {
   window.visualViewport?.addEventListener("resize", () => document.activeElement === move && move.scrollIntoView({ block: "nearest" }));
 }
 
+// What is typed already can be gone on with.
+const typed = document.querySelector("input[autofocus]");
+typed?.setSelectionRange(typed.value.length, typed.value.length);
+
 // A click anywhere on a line of the sheet opens it.
 document.querySelector(".lines")?.addEventListener("click", event => {
   if (!event.target.closest("button, input, label, form")) {
