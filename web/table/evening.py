@@ -53,6 +53,8 @@ def result_of(text: str, words: str = "", rules: str = "") -> Result:
 
 def _said(verdict: dict[str, Any], ahead: dict[str, Any] | None, names: tuple[str, ...]) -> str:
     """Who won or is ahead, or that the game does not stand."""
+    if verdict["verdict"] == "no game":
+        return "not begun"
     if verdict["verdict"] not in ("legal", "unsettled"):
         return f"line {verdict['line']} does not stand" if verdict.get("line") else "does not stand"
     if not ahead or not ahead["player"]:

@@ -130,17 +130,30 @@ class Judge:
     def reasons(self, draft: str) -> list[str]:
         """What explains the verdict on a draft, in sentences. They are those of the page of the record that it makes, but for those that rest on a number
         which nobody wrote, and for the tiles that a rack would have with one that it lacks."""
-        judged = self.filled(draft).judged
+        judged = self._up_to_refused(draft)
         try:
             page = self._ask("page", game=judged, likely=False).text
         except BadInput:
             return self.remarks(judged)
-        sentences = _texts_of(page or "", "why")
-        said, meant = self._facts(judged, draft=False), self._facts(draft, draft=True)
+        lines = _texts_of(page or "", "why")
+        if not drafts.has_holes(draft):
+            return lines
+        sentences, said, meant = _sentences_of(lines), self._facts(judged, draft=False), self._facts(draft, draft=True)
         if len(said) != len(sentences):
-            return sentences
-        names = [fact["name"] for fact in meant]
-        return [text for text, fact in zip(sentences, said) if fact in meant and not (fact["name"] == "RackTooBig" and "NotOnRack" in names)]
+            return [line for line in lines if "written" not in line]
+        names = {fact["name"] for fact in meant}
+        facts = [(text, fact) for text, fact in zip(sentences, said) if not (fact["name"] == "RackTooBig" and names & {"NotOnRack", "LeftOver"})]
+        same = [text for text, fact in facts if fact in meant]
+        return [line for text in same or [text for text, fact in facts if fact["name"] in names] for line in text]
+
+    def _up_to_refused(self, draft: str) -> str:
+        """The record that a draft makes, for its reasons: up to the line that the rules refuse, which has its right numbers, if its play is known."""
+        filled, verdict = self.filled(draft), self.line(draft)
+        line, play = verdict.get("line"), verdict.get("play")
+        fields = drafts.fields_of(drafts.lines_of(draft)[line - 1]) if line and play else None
+        if verdict["verdict"] != "illegal" or fields is None or fields.missing != 2:
+            return filled.judged
+        return _with_numbers("\n".join(drafts.lines_of(filled.text)[:line]) + "\n", {line: play["score"]})
 
     def _facts(self, game: str, draft: bool) -> list[dict[str, Any]]:
         """What is said of a text, as values."""
@@ -327,6 +340,17 @@ def _with_numbers(draft: str, scores: dict[int, int]) -> str:
                 totals[fields.nick] = int(given[1])
         lines.append(line)
     return "\n".join(lines)
+
+
+def _sentences_of(lines: list[str]) -> list[list[str]]:
+    """Sentences, each with the lines that list what it is about."""
+    found: list[list[str]] = []
+    for line in lines:
+        if found and line.startswith(" "):
+            found[-1].append(line)
+        else:
+            found.append([line])
+    return found
 
 
 class _Texts(HTMLParser):

@@ -100,6 +100,14 @@ class Correcting(Asking):
         self.assertIn("Correct line 4", said)
         self.assertNotIn("written", said)
 
+    def test_later_rack(self) -> None:
+        """If AI on line 17 was AN, Bob keeps IORUU and cannot show CNORTUU on line 19. That is said, and no number that nobody wrote."""
+        text = self.post("/game", do="mended-17", draft=GAME, player="Bob", move="G5 AN", rack="AINORUU")
+        said = shown_in(text, "refused")
+        self.assertIn("Line 19 no longer stands.", said)
+        self.assertIn("IORUU", said)
+        self.assertNotIn("written", said)
+
     def test_refused(self) -> None:
         """A correction that does not stand is not taken, and stays in its field."""
         draft, text = self.mended(3, player="Ann", move="8A GAZE", rack="AEGZ")
