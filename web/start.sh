@@ -79,7 +79,8 @@ if [ $# -gt 0 ]; then
     lists=("${list_name:-$(basename "${1%.*}")}$tab$it$tab$(realpath -m "${2:-${1%.*}.gad}")" ${lists[@]+"${lists[@]}"})
 fi
 TABLE_PROGRAM=${REFEREE:-$web/../crates/referee/out/referee}
-[ -x "$TABLE_PROGRAM" ] || TABLE_PROGRAM=$(command -v referee) || stop "there is no program referee: extra/prove.sh makes it, or name it, as in REFEREE=/usr/local/bin/referee"
+[ -x "$TABLE_PROGRAM" ] || TABLE_PROGRAM=$(command -v referee) ||
+    stop "there is no program referee: extra/prove.sh makes it, or name it, as in REFEREE=/usr/local/bin/referee"
 python=''
 for it in /usr/bin/python3 python3; do
     if [ -z "$python" ] && "$it" -c 'import flask' 2> /dev/null; then
@@ -98,7 +99,8 @@ build() {
     echo "building the lexicon $2 of $(wc -l < "$1") lines: some seconds, for 400,000 words up to a minute" >&2
     SECONDS=0
     "$TABLE_PROGRAM" build ${options[@]+"${options[@]}"} "$1" "$built" || {
-        echo "web/start.sh: $1 is not a word list: the line above says where. A list has one word a line, A to Z; --first-field and --skip-others read others." >&2
+        echo "web/start.sh: $1 is not a word list: the line above says where." >&2
+        echo "A list has one word a line, A to Z; --first-field and --skip-others read others." >&2
         exit 3
     }
     mv "$built" "$2"

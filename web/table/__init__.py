@@ -30,7 +30,8 @@ def create_app(settings: Optional[Settings] = None) -> Flask:
     app.jinja_env.filters["event_text"] = shown.event_text
     programs = app.extensions["judges"] = Judges(settings)
     _start(programs)
-    app.jinja_env.globals.update(chosen_list=_chosen_list, chosen_names=chosen, further=further, many_lists=len(programs.lists) > 1, many_rules=len(programs.rules) > 1)
+    app.jinja_env.globals.update(chosen_list=_chosen_list, chosen_names=chosen, further=further)
+    app.jinja_env.globals.update(many_lists=len(programs.lists) > 1, many_rules=len(programs.rules) > 1)
     atexit.register(programs.close)
     Guard(app, settings)
     app.register_blueprint(entering.pages)

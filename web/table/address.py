@@ -1,4 +1,4 @@
-"""How a game travels: its text, packed, is in the address of its page. So each page of a game is one that can be opened again, and nothing is stored here."""
+"""How a game travels: its text, packed, is in the address of its page. So each page can be opened again, and nothing is stored on the server."""
 from __future__ import annotations
 
 import base64

@@ -3,7 +3,7 @@ from __future__ import annotations
 
 import re
 import secrets
-from dataclasses import dataclass, fields as fields_of_class, replace
+from dataclasses import asdict, dataclass, fields as fields_of_class, replace
 from typing import Mapping, Optional
 
 from flask import Blueprint, Response, redirect, render_template, request, url_for
@@ -61,8 +61,9 @@ class Entry:
 class Asked:
     """What the page of a game is asked for besides the game. All of it is in the address of the page.
 
-    `do` says what was done: a line was tried (`try`), or taken back (`back`) or out (`cut`), one is opened for correction (`mend`, of the line `at`, or
-    `insert` before it) or was corrected (`mended`), the numbers were righted (`righted`), a square was chosen (`square`), words were ruled on (`rule`)."""
+    `do` says what was done: a line was tried (`try`), or taken back (`back`) or out (`cut`), one is opened for correction (`mend`, of the line `at`,
+    or `insert` before it) or was corrected (`mended`), the numbers were righted (`righted`), a square was chosen (`square`), or words were ruled on
+    (`rule`)."""
 
     id: str = ""
     do: str = ""
@@ -91,7 +92,7 @@ class Asked:
 
     def with_entry(self, entry: Entry, **others: str) -> Asked:
         """The same with what is in the fields of a line."""
-        return replace(self, kind=entry.kind, player=entry.player, move=entry.move, rack=entry.rack, tiles=entry.tiles, points=entry.points, case=entry.case, **others)
+        return replace(self, **asdict(entry), **others)
 
 
 def asked_in(given: Mapping[str, str]) -> Asked:

@@ -1,4 +1,4 @@
-"""What goes with an evening: all games that a browser has kept, as one archive and as a table of results; a sheet to print; and how lines are written."""
+"""What goes with an evening: all games that a browser has kept, as one archive and as a table of results; a sheet to print; and a page of help."""
 from __future__ import annotations
 
 import io
@@ -48,7 +48,8 @@ def result_of(text: str, words: str = "", rules: str = "") -> Result:
     names = tuple(player.name for player in players)
     about = ", ".join(said if name in ("event", "date") else f"{name} {said}" for name in drafts.ABOUT if (said := drafts.pragma_of(text, name)))
     verdict = program.line(filled.text)
-    return Result(filled.text, about, (names[0], names[1]), (totals.get(players[0].nick, 0), totals.get(players[1].nick, 0)), _said(verdict, program.ahead(text), names))
+    points = [totals.get(player.nick, 0) for player in players]
+    return Result(filled.text, about, (names[0], names[1]), (points[0], points[1]), _said(verdict, program.ahead(text), names))
 
 
 def _said(verdict: dict[str, Any], ahead: dict[str, Any] | None, names: tuple[str, ...]) -> str:

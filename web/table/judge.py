@@ -128,8 +128,8 @@ class Judge:
             return _why(bad)
 
     def reasons(self, draft: str) -> list[str]:
-        """What explains the verdict on a draft, in sentences. They are those of the page of the record that it makes, but for those that rest on a number
-        which nobody wrote, and for the tiles that a rack would have with one that it lacks."""
+        """What explains the verdict on a draft, in sentences. They are those of the page of the record that it makes, but for those that rest on a
+        number which nobody wrote, and for the tiles that a rack would have with one that it lacks."""
         judged = self._up_to_refused(draft)
         try:
             page = self._ask("page", game=judged, likely=False).text
@@ -176,7 +176,7 @@ class Judge:
             return None
 
     def audit(self, game: str, is_patient: bool) -> Answer:
-        """The wrong numbers of a sheet, with the corrected sheet as its text, if that stands. A bonus that would explain them may take long to find."""
+        """The wrong numbers of a sheet, with the corrected sheet as its text, if that stands. A bonus that would explain them may take long."""
         try:
             return self._ask_long("audit", most=None if is_patient else SOON, game=game, corrected=True)
         except BadInput as bad:
@@ -198,8 +198,8 @@ class Judge:
         return found
 
     def filled(self, draft: str) -> Filled:
-        """A draft with the numbers that are missing, up to the line that the rules refuse. Only what is before that line is filled: whether a bonus would
-        explain the sums of a game that does not stand may take long to find, and is not asked here."""
+        """A draft with the numbers that are missing, up to the line that the rules refuse. Only what is before that line is filled: whether a bonus
+        would explain the sums of a game that does not stand may take long to find, and is not asked here."""
         lines = drafts.lines_of(draft)
         holes = {number: fields.missing for number, line in enumerate(lines, 1) if (fields := drafts.fields_of(line)) and fields.missing}
         if not holes:

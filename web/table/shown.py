@@ -51,7 +51,7 @@ def marked_of(play: Optional[dict[str, Any]]) -> list[str]:
 
 @dataclass(frozen=True)
 class Row:
-    """A line of a sheet: its number, who, the rack, what happened, the numbers as they are written, and whether it is where the game stops, or after it."""
+    """A line of a sheet: its number, who, the rack, what happened, the numbers as they are written, and whether the game stops there, or before."""
 
     line: int
     nick: str
@@ -149,8 +149,8 @@ class Repair:
 
 
 def repairs_of(answer: dict[str, Any], sheet: str, is_righted: bool, most: int = 5) -> list[Repair]:
-    """The likeliest repairs of a sheet, the likeliest first. One that takes a line out is among them only if there is no other, and not if the right numbers
-    alone explain the sheet."""
+    """The likeliest repairs of a sheet, the likeliest first. One that takes a line out is among them only if there is no other, and not if the right
+    numbers alone explain the sheet."""
     whole = [(slip, [slip]) for slip in (answer.get("sheet_slips") or []) + (answer.get("line_slips") or [])]
     found = whole + [(it, [it]) for it in answer.get("repairs") or []] + [(it, it["changes"]) for it in answer.get("pairs") or []]
     if answer.get("chain"):

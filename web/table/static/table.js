@@ -1,5 +1,5 @@
-// A little help, without which everything works: each game is kept in this browser as it grows, a click on a square fills the place of the play, a click on a
-// line opens it, and what takes long is fetched. What is kept is only ever shown as text.
+// A little help, without which everything works: each game is kept in this browser as it grows, a click on a square fills the place of the play, a
+// click on a line opens it, and what takes long is fetched. What is kept is only ever shown as text.
 "use strict";
 
 const move = document.getElementById("move");
@@ -34,7 +34,8 @@ function keep() {
   const names = [...document.querySelectorAll(".score .name")].map(it => it.textContent);
   const points = [...document.querySelectorAll(".score b")].map(it => it.textContent);
   const parts = new URLSearchParams(location.search);
-  const game = { names, points, lines, last: table.dataset.last, over: table.dataset.over === "1", text: document.getElementById("draft").defaultValue, list: parts.get("list") || "", rules: parts.get("rules") || "", at: Date.now() };
+  const of = { list: parts.get("list") || "", rules: parts.get("rules") || "", over: table.dataset.over === "1" };
+  const game = { names, points, lines, last: table.dataset.last, text: document.getElementById("draft").defaultValue, at: Date.now(), ...of };
   if (old && old.lines > lines + 1) {
     localStorage.setItem(`${key} ${old.lines}`, JSON.stringify(old));
   }
