@@ -1,5 +1,5 @@
 #!/usr/bin/env python3
-"""What the gate costs, crate by crate, in seconds of processor time (user and system).
+"""What the gate costs, crate by crate, in seconds of processor time (user and system), beside the number of functions and edits.
 
   watch_gate.py [COMMAND..]         runs the command, `.ci/run` where none is named, watches it and prints the table
   watch_gate.py --watch-only END    watches all runs of rt on the machine until the process of number END has ended or the file END exists
@@ -20,6 +20,7 @@ from pathlib import Path
 
 TOP = Path(__file__).resolve().parent.parent
 TICKS = os.sysconf("SC_CLK_TCK")
+FUNCTION = re.compile(r"^\s*(?:pub(?:\([a-z]+\))? )?(?:const )?(?:unsafe )?fn \w+", re.M)
 
 
 def all_processes():
@@ -77,6 +78,11 @@ def watch(seen, into, has_ended):
         time.sleep(0.2)
 
 
+def functions(crate):
+    """How many functions a crate has."""
+    return sum(len(FUNCTION.findall(it.read_text())) for it in TOP.glob(f"crates/{crate}/src/**/*.rt"))
+
+
 def table(seen, folders):
     """Prints the table, and what the whole comes to."""
     spent = defaultdict(lambda: {part: defaultdict(float) for part in ("proof", "tests", "edits")})
@@ -85,9 +91,9 @@ def table(seen, folders):
     for run, _, crate, part, seconds in (it for it in asked if it[2]):
         spent[crate][part][run] += seconds
     rows = {crate: [max(it.values(), default=0) for it in parts.values()] for crate, parts in sorted(spent.items())}
-    rows = {crate: [*row, len(list(TOP.glob(f"crates/{crate}/must-fail/*.edit")))] for crate, row in rows.items()}
-    sums = [sum(column) for column in zip(*rows.values())] or [0] * 4
-    print("| crate | proof | tests | edits | number of edits |\n|---|---|---|---|---|")
+    rows = {crate: [*row, functions(crate), len(list(TOP.glob(f"crates/{crate}/must-fail/*.edit")))] for crate, row in rows.items()}
+    sums = [sum(column) for column in zip(*rows.values())] or [0] * 5
+    print("| crate | proof | tests | edits | number of functions | number of edits |\n|---|---|---|---|---|---|")
     for crate, row in [*((f"`{crate}`", row) for crate, row in rows.items()), ("together", sums)]:
         print(f"| {crate} | {' | '.join(f'{it:.0f}' for it in row)} |")
     program = {"referee"}

@@ -24,6 +24,7 @@ for top in "${tops[@]}"; do
 done
 extra/rt version > /dev/null || exit 2
 
+# shellcheck source=extra/crates.sh
 . extra/crates.sh
 room=$(mktemp -d) || exit 2
 trap 'rm -rf "$room"' EXIT

@@ -1,4 +1,4 @@
-"""Says in plain words why a page cannot be at an address and a port: place.py HOST PORT"""
+"""Says in plain words why a page cannot be at an address and a port: place.py COMMAND HOST PORT"""
 import errno
 import socket
 import sys
@@ -11,7 +11,7 @@ REASONS = {
 
 
 def main() -> None:
-    host, port = sys.argv[1], int(sys.argv[2])
+    command, host, port = sys.argv[1], sys.argv[2], int(sys.argv[3])
     try:
         if port > 65535:
             raise OverflowError
@@ -20,11 +20,11 @@ def main() -> None:
             it.setsockopt(socket.SOL_SOCKET, socket.SO_REUSEADDR, 1)
             it.bind(place)
     except OverflowError:
-        sys.exit(f"web/start.sh: {port} is not a port: the last one is 65535")
+        sys.exit(f"{command}: {port} is not a port: the last one is 65535")
     except socket.gaierror:
-        sys.exit(f"web/start.sh: {host} is neither an address nor a name of this machine: --host needs one of its addresses, which `hostname -I` prints")
+        sys.exit(f"{command}: {host} is neither an address nor a name of this machine: --host needs one of its addresses, which `hostname -I` prints")
     except OSError as error:
-        sys.exit("web/start.sh: " + REASONS.get(error.errno, "the page cannot be at {host}, port {port}").format(host=host, port=port))
+        sys.exit(f"{command}: " + REASONS.get(error.errno, "the page cannot be at {host}, port {port}").format(host=host, port=port))
 
 
 main()

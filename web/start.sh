@@ -1,5 +1,6 @@
 #!/usr/bin/env bash
 # Starts the table, a web page for games of Scrabble: web/start.sh [OPTION].. WORDS [LEXICON]
+# The package installs it as the command referee-table.
 #
 #   --port PORT         the port, 8080 unless it is said
 #   --host ADDRESS      the address, 127.0.0.1 unless it is said: only this machine can open the page then
@@ -14,14 +15,16 @@
 # LEXICON is WORDS with .gad in place of its suffix, unless it is named; it is built if there is none. The program is $REFEREE, or else the one that
 # extra/prove.sh leaves, or the command `referee`. The page needs Flask; with gunicorn it has workers, and without it one process.
 set -eu
-web=$(cd "$(dirname "$0")" && pwd)
+web=$(dirname "$(readlink -f "$0")")
+command=referee-table
+[ "$(basename "$0")" = "$command" ] || command=web/start.sh
 usage() {
-    [ $# = 0 ] || echo "web/start.sh: $1" >&2
-    sed -n '2,/^set/{/^#/s/^# \{0,1\}//p}' "$0" >&2
+    [ $# = 0 ] || echo "$command: $1" >&2
+    sed -n "2,/^set/{/^# The package/d; s|web/start.sh|$command|; /^#/s/^# \{0,1\}//p}" "$0" >&2
     exit 64
 }
 stop() {
-    echo "web/start.sh: $1" >&2
+    echo "$command: $1" >&2
     exit "${2:-2}"
 }
 # A file that has to be there, by its whole name.
@@ -88,7 +91,7 @@ for it in /usr/bin/python3 python3; do
     fi
 done
 [ -n "$python" ] || stop "Python has no Flask: install it, as by apt-get install python3-flask gunicorn"
-"$python" "$web/place.py" "$host" "$port" || exit 2
+"$python" "$web/place.py" "$command" "$host" "$port" || exit 2
 
 # A lexicon is built beside its place, and takes it once it is whole.
 built=''
@@ -99,7 +102,7 @@ build() {
     echo "building the lexicon $2 of $(wc -l < "$1") lines: some seconds, for 400,000 words up to a minute" >&2
     SECONDS=0
     "$TABLE_PROGRAM" build ${options[@]+"${options[@]}"} "$1" "$built" || {
-        echo "web/start.sh: $1 is not a word list: the line above says where." >&2
+        echo "$command: $1 is not a word list: the line above says where." >&2
         echo "A list has one word a line, A to Z; --first-field and --skip-others read others." >&2
         exit 3
     }
@@ -111,7 +114,7 @@ for list in "${lists[@]}"; do
     IFS=$tab read -r _ words lexicon <<< "$list"
     [ -s "$lexicon" ] || build "$words" "$lexicon"
     "$TABLE_PROGRAM" check ${options[@]+"${options[@]}"} "$words" "$lexicon" > /dev/null || {
-        echo "web/start.sh: $lexicon is not the lexicon of $words. If the list is right, delete the lexicon, and it is built anew." >&2
+        echo "$command: $lexicon is not the lexicon of $words. If the list is right, delete the lexicon, and it is built anew." >&2
         exit 3
     }
 done
@@ -121,7 +124,8 @@ TABLE_LISTS=$(printf '%s\n' "${lists[@]}")
 TABLE_SECRET=$("$python" -c 'import secrets; print(secrets.token_hex(32))')
 TABLE_NAMES="$names $host" TABLE_BIND=$host:$port TABLE_WORKERS=$workers
 [[ $host != *:* ]] || TABLE_BIND="[$host]:$port"
-PYTHONPATH=$web:$web/../python PYTHONDONTWRITEBYTECODE=1
+PYTHONPATH=$web PYTHONDONTWRITEBYTECODE=1
+[ ! -d "$web/../python/referee" ] || PYTHONPATH=$web:$web/../python
 export TABLE_LISTS TABLE_PROGRAM TABLE_SECRET TABLE_NAMES TABLE_BIND TABLE_WORKERS PYTHONPATH PYTHONDONTWRITEBYTECODE
 if "$python" -c 'import gunicorn' 2> /dev/null; then
     exec "$python" -m gunicorn --config "$web/gunicorn.conf.py"
