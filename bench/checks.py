@@ -148,6 +148,7 @@ WRONG = (
 def main():
     programs, runs = [str(Path(it).resolve()) for it in sys.argv[1:3]], int((sys.argv + ["5"] * 4)[3])
     with tempfile.TemporaryDirectory() as folder:
+
         def ask(what, *words):
             return compare(folder, programs, runs, what, words)
 

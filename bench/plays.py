@@ -68,6 +68,7 @@ def passes(head, totals, number, rack):
 def main():
     programs, runs = [str(Path(it).resolve()) for it in sys.argv[1:3]], int((sys.argv + ["3"] * 4)[3])
     with tempfile.TemporaryDirectory() as folder:
+
         def put(name, data):
             return Path(folder, name).write_bytes(data if isinstance(data, bytes) else data.encode())
 

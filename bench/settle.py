@@ -56,7 +56,10 @@ def usual(folder, program, games):
             told, plain, settled = both(folder, program)
             more.setdefault(told.split(" ")[0], []).append(settled - plain)
         for told, times in sorted(more.items()):
-            print(f"racks {style}: {len(times)} games that judge calls {told}, {sum(times) / len(times):.2f} ms more, at most {max(times):.2f}", flush=True)
+            print(
+                f"racks {style}: {len(times)} games that judge calls {told}, {sum(times) / len(times):.2f} ms more, at most {max(times):.2f}",
+                flush=True,
+            )
 
 
 def thousand(style):

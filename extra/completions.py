@@ -75,7 +75,9 @@ def argument_of(line):
 
 def command_of(text):
     """What a help says."""
-    return Command(text.splitlines()[0], [argument_of(it) for it in part_of(text, "Arguments")], [option_of(it) for it in part_of(text, "Options")], text)
+    return Command(
+        text.splitlines()[0], [argument_of(it) for it in part_of(text, "Arguments")], [option_of(it) for it in part_of(text, "Options")], text
+    )
 
 
 def known(program):
@@ -174,7 +176,11 @@ def zsh(own, commands):
     rows = []
     for name, command in commands.items():
         specifications = [zsh_specification(it) for it in command.options] + list(zsh_arguments(command))
-        rows.append(f"        {name})\n            _arguments \\\n" + " \\\n".join(f"                {it}" for it in specifications) + " && found=0\n            ;;")
+        rows.append(
+            f"        {name})\n            _arguments \\\n"
+            + " \\\n".join(f"                {it}" for it in specifications)
+            + " && found=0\n            ;;"
+        )
     told = "\n".join(f"        {quoted(name + ':' + in_zsh(command.said))}" for name, command in commands.items())
     options = " \\\n".join(f"        {zsh_specification(it)}" for it in own.options)
     return f"""#compdef referee
@@ -208,7 +214,15 @@ def fish_options(command, when):
     """The lines of fish for options."""
     for option in command.options:
         names = " ".join(f"-l {it[2:]}" if it.startswith("--") else f"-s {it[1:]}" for it in option.names)
-        value = "" if not option.value else " -x" if option.value in NOTHING else " -x -a '(__fish_complete_directories)'" if option.value in FOLDERS else " -r -F"
+        value = (
+            ""
+            if not option.value
+            else " -x"
+            if option.value in NOTHING
+            else " -x -a '(__fish_complete_directories)'"
+            if option.value in FOLDERS
+            else " -r -F"
+        )
         yield f"complete -c referee -n {quoted(when)} {names}{value} -d {quoted(option.said)}"
 
 
@@ -326,7 +340,12 @@ def manual(program, own, commands):
 def files(program):
     """The text of each file."""
     own, commands = known(program)
-    return {"referee.bash": bash(own, commands), "_referee": zsh(own, commands), "referee.fish": fish(own, commands), "referee.1": manual(program, own, commands)}
+    return {
+        "referee.bash": bash(own, commands),
+        "_referee": zsh(own, commands),
+        "referee.fish": fish(own, commands),
+        "referee.1": manual(program, own, commands),
+    }
 
 
 def outdated(program):

@@ -42,7 +42,14 @@ def make_archive(folder, count):
     (folder / "words.gad").write_bytes(build(listed))
     (folder / "games").mkdir()
     files = {f"games/{number:05}.gcg": game for number, game in enumerate(games)}
-    files |= {"games/a\ttab": games[0], "games/back\\slash\\t": games[1], "games/empty.gcg": b"", "games/page.html": b"<html>\n", "games/-": games[0], "games/unread.gcg": games[0] + b"A: (time) -5 100\n"}
+    files |= {
+        "games/a\ttab": games[0],
+        "games/back\\slash\\t": games[1],
+        "games/empty.gcg": b"",
+        "games/page.html": b"<html>\n",
+        "games/-": games[0],
+        "games/unread.gcg": games[0] + b"A: (time) -5 100\n",
+    }
     wanted = {}
     for name, game in files.items():
         (folder / name).write_bytes(game)

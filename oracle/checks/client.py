@@ -83,7 +83,9 @@ class Client(Differences):
             told = referee.compare(game, game)
             self.expect(json.loads(ran.stdout) == told and ran.returncode == told.status, game, ran.stdout, told)
         except BadInput as bad:
-            self.expect(notes.returncode == ran.returncode == 3 and json.loads(ran.stdout)["verdict"] == bad.answer.verdict, game, ran.stdout, bad.answer)
+            self.expect(
+                notes.returncode == ran.returncode == 3 and json.loads(ran.stdout)["verdict"] == bad.answer.verdict, game, ran.stdout, bad.answer
+            )
 
     def endings(self):
         """A program that is killed, one that does not answer, and inputs that are bad."""
@@ -126,7 +128,9 @@ class Client(Differences):
     def texts(self, referee):
         """Texts of sheets: repaired, merged and with notes; and what is raised where there is none."""
         told = referee.repair(WORD.replace("8E", "9E"), repaired=True)
-        self.expect(told.status == 1 and told.text == WORD.replace("DORWAAE", "AADEORW") and told.repairs[0]["slip"] == "one square off", told, told.text)
+        self.expect(
+            told.status == 1 and told.text == WORD.replace("DORWAAE", "AADEORW") and told.repairs[0]["slip"] == "one square off", told, told.text
+        )
         self.expect(referee.repair(WORD, repaired=True).text is None and referee.repair(WORD).repairs == [])
         self.expect(len(referee.repair(WORD.replace("8E", "9E"), number=1).repairs) == 1)
         bad = self.raised(BadInput, lambda: referee.repair(WORD.replace(" 8E", ""), number=1, repaired=True))

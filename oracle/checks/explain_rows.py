@@ -23,8 +23,7 @@ PLAYS = [
     ),
     (
         "WORD",
-        ">A: DORWAAE 8E WORD +16 16\n"
-        ">B: O15 AB +0 0\n",
+        ">A: DORWAAE 8E WORD +16 16\n" ">B: O15 AB +0 0\n",
         "illegal line 2: OffBoard\n"
         "line 2: >B: O15 AB +0 0\n"
         "The play leaves the board: it covers 2 squares, and from 15O to the end of the column there is only 1.\n",
@@ -32,38 +31,26 @@ PLAYS = [
     (
         "WORD",
         ">A: 8E WO.D +16 16\n",
-        "illegal line 1: Mismatch\n"
-        "line 1: >A: 8E WO.D +16 16\n"
-        "The play has a dot on 8G, as if a tile were there, but the square is empty.\n",
+        "illegal line 1: Mismatch\n" "line 1: >A: 8E WO.D +16 16\n" "The play has a dot on 8G, as if a tile were there, but the square is empty.\n",
     ),
     (
         "WORD",
-        ">A: DORWAAE 8E WORD +16 16\n"
-        ">B: 8D QUA +0 0\n",
-        "illegal line 2: Mismatch\n"
-        "line 2: >B: 8D QUA +0 0\n"
-        "The play has U on 8E, but the tile there shows W.\n",
+        ">A: DORWAAE 8E WORD +16 16\n" ">B: 8D QUA +0 0\n",
+        "illegal line 2: Mismatch\n" "line 2: >B: 8D QUA +0 0\n" "The play has U on 8E, but the tile there shows W.\n",
     ),
     (
         "WORD",
-        ">A: DORWAAE 8E WORD +16 16\n"
-        ">B: 8E .... +0 0\n",
-        "illegal line 2: NoNewTile\n"
-        "line 2: >B: 8E .... +0 0\n"
-        "Every square of the play already has a tile, so no tile is new.\n",
+        ">A: DORWAAE 8E WORD +16 16\n" ">B: 8E .... +0 0\n",
+        "illegal line 2: NoNewTile\n" "line 2: >B: 8E .... +0 0\n" "Every square of the play already has a tile, so no tile is new.\n",
     ),
     (
         "WORD",
-        ">A: DORWAAE 8E WORD +16 16\n"
-        ">B: 1A ABCDEFGH +0 0\n",
-        "illegal line 2: TooManyTiles\n"
-        "line 2: >B: 1A ABCDEFGH +0 0\n"
-        "The play puts down 8 tiles, and a rack has 7 at most.\n",
+        ">A: DORWAAE 8E WORD +16 16\n" ">B: 1A ABCDEFGH +0 0\n",
+        "illegal line 2: TooManyTiles\n" "line 2: >B: 1A ABCDEFGH +0 0\n" "The play puts down 8 tiles, and a rack has 7 at most.\n",
     ),
     (
         "WORD",
-        ">A: DORWAAE 8E WORD +16 16\n"
-        ">B: 8D S +0 0\n",
+        ">A: DORWAAE 8E WORD +16 16\n" ">B: 8D S +0 0\n",
         "illegal line 2: NotWhole\n"
         "line 2: >B: 8D S +0 0\n"
         "The tile W on 8E is directly after the play.\n"
@@ -71,8 +58,7 @@ PLAYS = [
     ),
     (
         "WORD",
-        ">A: DORWAAE 8E WORD +16 16\n"
-        ">B: 8I S +0 0\n",
+        ">A: DORWAAE 8E WORD +16 16\n" ">B: 8I S +0 0\n",
         "illegal line 2: NotWhole\n"
         "line 2: >B: 8I S +0 0\n"
         "The tile D on 8H is directly before the play.\n"
@@ -86,20 +72,11 @@ PLAYS = [
         "The first play of a game has to cover 8H, and this one does not.\n"
         "The same letters score 16 at 8E across, 8F across, 8G across and 5 other places.\n",
     ),
+    ("WORD", ">A: 8H A +0 0\n", "illegal line 1: TooShort\n" "line 1: >A: 8H A +0 0\n" "The play makes no word of two letters or more.\n"),
     (
         "WORD",
-        ">A: 8H A +0 0\n",
-        "illegal line 1: TooShort\n"
-        "line 1: >A: 8H A +0 0\n"
-        "The play makes no word of two letters or more.\n",
-    ),
-    (
-        "WORD",
-        ">A: DORWAAE 8E WORD +16 16\n"
-        ">B: 1A AT +0 0\n",
-        "illegal line 2: Apart\n"
-        "line 2: >B: 1A AT +0 0\n"
-        "No tile of the play touches a tile that is already on the board.\n",
+        ">A: DORWAAE 8E WORD +16 16\n" ">B: 1A AT +0 0\n",
+        "illegal line 2: Apart\n" "line 2: >B: 1A AT +0 0\n" "No tile of the play touches a tile that is already on the board.\n",
     ),
 ]
 
@@ -121,8 +98,7 @@ SCORES = [
     ),
     (
         "WORD\nAT\nRA\nDT",
-        ">A: DORWAAE 8E WORD +16 16\n"
-        ">B: 9F AT +9 9\n",
+        ">A: DORWAAE 8E WORD +16 16\n" ">B: 9F AT +9 9\n",
         "illegal line 2: WrongScore 8\n"
         "line 2: >B: 9F AT +9 9\n"
         "The play scores 8, but 9 is written.\n"
@@ -143,8 +119,7 @@ SCORES = [
     ),
     (
         "WORD\nAT\nRA\nDT",
-        ">A: DORWAAE 8E WORD +16 16\n"
-        ">B: G9 AT +9 9\n",
+        ">A: DORWAAE 8E WORD +16 16\n" ">B: G9 AT +9 9\n",
         "illegal line 2: NotWhole\n"
         "line 2: >B: G9 AT +9 9\n"
         "The tile R on 8G is directly before the play.\n"
@@ -187,37 +162,18 @@ SCORES = [
         "bonus for seven tiles: 50\n"
         "score of the play: 62\n",
     ),
-    (
-        "WORD",
-        ">A: - +5 5\n",
-        "illegal line 1: WrongScore 0\n"
-        "line 1: >A: - +5 5\n"
-        "A pass scores 0, but 5 is written.\n",
-    ),
-    (
-        "WORD",
-        ">A: -AB +5 5\n",
-        "illegal line 1: WrongScore 0\n"
-        "line 1: >A: -AB +5 5\n"
-        "An exchange scores 0, but 5 is written.\n",
-    ),
+    ("WORD", ">A: - +5 5\n", "illegal line 1: WrongScore 0\n" "line 1: >A: - +5 5\n" "A pass scores 0, but 5 is written.\n"),
+    ("WORD", ">A: -AB +5 5\n", "illegal line 1: WrongScore 0\n" "line 1: >A: -AB +5 5\n" "An exchange scores 0, but 5 is written.\n"),
     (
         "AT",
-        ">A: 8E WORD +16 16\n"
-        ">A: -- -18 -2\n",
+        ">A: 8E WORD +16 16\n" ">A: -- -18 -2\n",
         "illegal line 2: WrongScore -16\n"
         "line 2: >A: -- -18 -2\n"
         "A withdrawal takes the points of the play off again: it scores -16, but -18 is written.\n",
     ),
     (
         "AT",
-        ">A: - +0 0\n"
-        ">B: - +0 0\n"
-        ">A: - +0 0\n"
-        ">B: - +0 0\n"
-        ">A: - +0 0\n"
-        ">B: - +0 0\n"
-        ">A: (AEINRST) +7 7\n",
+        ">A: - +0 0\n" ">B: - +0 0\n" ">A: - +0 0\n" ">B: - +0 0\n" ">A: - +0 0\n" ">B: - +0 0\n" ">A: (AEINRST) +7 7\n",
         "illegal line 7: WrongScore -7\n"
         "line 7: >A: (AEINRST) +7 7\n"
         "A loses the points of the rack AEINRST: the score is -7, but 7 is written.\n",
@@ -242,9 +198,7 @@ TOTALS = [
     ),
     (
         "WORD",
-        ">A: DORWAAE 8E WORD +16 16\n"
-        ">B: - +0 0\n"
-        ">A: - +0 0\n",
+        ">A: DORWAAE 8E WORD +16 16\n" ">B: - +0 0\n" ">A: - +0 0\n",
         "illegal line 3: WrongTotal 16\n"
         "line 3: >A: - +0 0\n"
         "A had 16 and scores 0 on this line, which makes 16, but 0 is written.\n"
@@ -252,20 +206,12 @@ TOTALS = [
     ),
     (
         "WORD",
-        ">A: DORWAAE 8E WORD +16 16\n"
-        ">B: - +0 0\n"
-        ">A: - +0 16\n"
-        ">B: - +0 0\n"
-        ">A: - +0 0\n",
-        "illegal line 5: WrongTotal 16\n"
-        "line 5: >A: - +0 0\n"
-        "A had 16 and scores 0 on this line, which makes 16, but 0 is written.\n",
+        ">A: DORWAAE 8E WORD +16 16\n" ">B: - +0 0\n" ">A: - +0 16\n" ">B: - +0 0\n" ">A: - +0 0\n",
+        "illegal line 5: WrongTotal 16\n" "line 5: >A: - +0 0\n" "A had 16 and scores 0 on this line, which makes 16, but 0 is written.\n",
     ),
     (
         "WORD",
-        ">A: DORWAAE 8E WORD +16 16\n"
-        ">B: - +0 0\n"
-        ">A: (time) -5 16\n",
+        ">A: DORWAAE 8E WORD +16 16\n" ">B: - +0 0\n" ">A: (time) -5 16\n",
         "illegal line 3: WrongTotal 11\n"
         "line 3: >A: (time) -5 16\n"
         "A had 16 and scores -5 on this line, which makes 11, but 16 is written.\n"
@@ -277,17 +223,12 @@ TOTALS = [
 TURNS = [
     (
         "WORD",
-        ">A: DORWAAE 8E WORD +16 16\n"
-        ">A: - +0 16\n",
-        "illegal line 2: NotYourTurn\n"
-        "line 2: >A: - +0 16\n"
-        "It is the other player's turn, not A's.\n",
+        ">A: DORWAAE 8E WORD +16 16\n" ">A: - +0 16\n",
+        "illegal line 2: NotYourTurn\n" "line 2: >A: - +0 16\n" "It is the other player's turn, not A's.\n",
     ),
     (
         "WORD",
-        ">A: DORWAAE 8E WORD +16 16\n"
-        ">B: - +0 0\n"
-        ">B: - +0 0\n",
+        ">A: DORWAAE 8E WORD +16 16\n" ">B: - +0 0\n" ">B: - +0 0\n",
         "illegal line 3: NotYourTurn\n"
         "line 3: >B: - +0 0\n"
         "It is A's turn, not B's.\n"
@@ -295,14 +236,7 @@ TURNS = [
     ),
     (
         "AT",
-        ">A: - +0 0\n"
-        ">B: - +0 0\n"
-        ">A: - +0 0\n"
-        ">B: - +0 0\n"
-        ">A: - +0 0\n"
-        ">B: - +0 0\n"
-        ">A: (AEINRST) -7 -7\n"
-        ">B: - +0 0\n",
+        ">A: - +0 0\n" ">B: - +0 0\n" ">A: - +0 0\n" ">B: - +0 0\n" ">A: - +0 0\n" ">B: - +0 0\n" ">A: (AEINRST) -7 -7\n" ">B: - +0 0\n",
         "illegal line 8: GameOver\n"
         "line 8: >B: - +0 0\n"
         "A has lost the points of a rack, so there are no more turns. What is missing is B's last rack.\n",
@@ -333,9 +267,7 @@ TURNS = [
         ">A: (AEINRST) -7 -7\n"
         ">B: (AEINRST) -7 -7\n"
         ">B: - +0 -7\n",
-        "illegal line 9: GameOver\n"
-        "line 9: >B: - +0 -7\n"
-        "The game is complete: the last racks are in.\n",
+        "illegal line 9: GameOver\n" "line 9: >B: - +0 -7\n" "The game is complete: the last racks are in.\n",
     ),
     (
         "AT",
@@ -346,52 +278,32 @@ TURNS = [
     ),
     (
         "AT",
-        ">A: - +0 0\n"
-        ">B: (AEINRST) -7 -7\n",
+        ">A: - +0 0\n" ">B: (AEINRST) -7 -7\n",
         "illegal line 2: NotOver\n"
         "line 2: >B: (AEINRST) -7 -7\n"
         "No last rack is due. No player is out, and a game ends after 6 turns in a row without a play that stands; before this line there was 1.\n",
     ),
     (
         "AT",
-        ">A: - +0 0\n"
-        ">B: - +0 0\n"
-        ">A: - +0 0\n"
-        ">B: - +0 0\n"
-        ">A: - +0 0\n"
-        ">B: AEINRST (AEINRST) -7 -7\n",
+        ">A: - +0 0\n" ">B: - +0 0\n" ">A: - +0 0\n" ">B: - +0 0\n" ">A: - +0 0\n" ">B: AEINRST (AEINRST) -7 -7\n",
         "illegal line 6: NotOver\n"
         "line 6: >B: AEINRST (AEINRST) -7 -7\n"
         "No last rack is due. No player is out, and a game ends after 6 turns in a row without a play that stands; before this line there were 5.\n",
     ),
     (
         "AT",
-        ">A: - +0 0\n"
-        ">B: - +0 0\n"
-        ">A: - +0 0\n"
-        ">B: - +0 0\n"
-        ">A: - +0 0\n"
-        ">B: - +0 0\n"
-        ">A: (AB) -4 -4\n",
-        "illegal line 7: LastRackSize\n"
-        "line 7: >A: (AB) -4 -4\n"
-        "The last rack shows 2 tiles, but A has 7.\n",
+        ">A: - +0 0\n" ">B: - +0 0\n" ">A: - +0 0\n" ">B: - +0 0\n" ">A: - +0 0\n" ">B: - +0 0\n" ">A: (AB) -4 -4\n",
+        "illegal line 7: LastRackSize\n" "line 7: >A: (AB) -4 -4\n" "The last rack shows 2 tiles, but A has 7.\n",
     ),
     (
         "AT",
         ">A: (time) -7 -7\n",
-        "illegal line 1: BadTime\n"
-        "line 1: >A: (time) -7 -7\n"
-        "A penalty for time is a negative multiple of 5, but -7 is written.\n",
+        "illegal line 1: BadTime\n" "line 1: >A: (time) -7 -7\n" "A penalty for time is a negative multiple of 5, but -7 is written.\n",
     ),
     (
         "AT",
-        ">A: (time) -5 -5\n"
-        ">B: - +0 0\n"
-        ">A: (time) -5 -10\n",
-        "illegal line 3: BadTime\n"
-        "line 3: >A: (time) -5 -10\n"
-        "A already has a penalty for time, on line 1, and a player has one at most.\n",
+        ">A: (time) -5 -5\n" ">B: - +0 0\n" ">A: (time) -5 -10\n",
+        "illegal line 3: BadTime\n" "line 3: >A: (time) -5 -10\n" "A already has a penalty for time, on line 1, and a player has one at most.\n",
     ),
 ]
 
@@ -400,31 +312,21 @@ CHALLENGES = [
     (
         "WORD",
         ">A: -- +0 0\n",
-        "illegal line 1: NothingToWithdraw\n"
-        "line 1: >A: -- +0 0\n"
-        "This is the first event, so there is nothing to take back.\n",
+        "illegal line 1: NothingToWithdraw\n" "line 1: >A: -- +0 0\n" "This is the first event, so there is nothing to take back.\n",
     ),
     (
         "WORD",
-        ">A: - +0 0\n"
-        ">A: -- +0 0\n",
-        "illegal line 2: NothingToWithdraw\n"
-        "line 2: >A: -- +0 0\n"
-        "The event before this one is not a play, so there is nothing to take back.\n",
+        ">A: - +0 0\n" ">A: -- +0 0\n",
+        "illegal line 2: NothingToWithdraw\n" "line 2: >A: -- +0 0\n" "The event before this one is not a play, so there is nothing to take back.\n",
     ),
     (
         "AT",
-        ">A: DORWAAE 8E WORD +16 16\n"
-        ">B: -- -16 -16\n",
-        "illegal line 2: NothingToWithdraw\n"
-        "line 2: >B: -- -16 -16\n"
-        "The play on line 1 is A's, so B cannot take it back.\n",
+        ">A: DORWAAE 8E WORD +16 16\n" ">B: -- -16 -16\n",
+        "illegal line 2: NothingToWithdraw\n" "line 2: >B: -- -16 -16\n" "The play on line 1 is A's, so B cannot take it back.\n",
     ),
     (
         "WORD\nAT\nRA\nDT",
-        ">A: DORWAAE 8E WORD +16 16\n"
-        ">B: 9G AT +9 9\n"
-        ">B: -- -9 0\n",
+        ">A: DORWAAE 8E WORD +16 16\n" ">B: 9G AT +9 9\n" ">B: -- -9 0\n",
         "illegal line 3: WithdrawnValid\n"
         "line 3: >B: -- -9 0\n"
         "The play on line 2 stands, since each of its words is in the word list: AT, RA and DT.\n"
@@ -432,8 +334,7 @@ CHALLENGES = [
     ),
     (
         "AT",
-        ">A: DORWAAE 8E WORD +16 16\n"
-        ">A: (challenge) +5 21\n",
+        ">A: DORWAAE 8E WORD +16 16\n" ">A: (challenge) +5 21\n",
         "illegal line 2: BonusOnPhony\n"
         "line 2: >A: (challenge) +5 21\n"
         "The challenge of the play on line 1 succeeds, since none of its words is in the word list: WORD.\n"
@@ -442,39 +343,28 @@ CHALLENGES = [
     (
         "AT",
         ">A: (challenge) +5 5\n",
-        "illegal line 1: BadBonus\n"
-        "line 1: >A: (challenge) +5 5\n"
-        "This is the first event, so there is nothing to challenge.\n",
+        "illegal line 1: BadBonus\n" "line 1: >A: (challenge) +5 5\n" "This is the first event, so there is nothing to challenge.\n",
     ),
     (
         "AT",
-        ">A: - +0 0\n"
-        ">A: (challenge) +5 5\n",
-        "illegal line 2: BadBonus\n"
-        "line 2: >A: (challenge) +5 5\n"
-        "The event before this one is not a play, so there is nothing to challenge.\n",
+        ">A: - +0 0\n" ">A: (challenge) +5 5\n",
+        "illegal line 2: BadBonus\n" "line 2: >A: (challenge) +5 5\n" "The event before this one is not a play, so there is nothing to challenge.\n",
     ),
     (
         "WORD",
-        ">A: DORWAAE 8E WORD +16 16\n"
-        ">B: (challenge) +5 5\n",
-        "illegal line 2: BadBonus\n"
-        "line 2: >B: (challenge) +5 5\n"
-        "The play on line 1 is A's, so its bonus cannot go to B.\n",
+        ">A: DORWAAE 8E WORD +16 16\n" ">B: (challenge) +5 5\n",
+        "illegal line 2: BadBonus\n" "line 2: >B: (challenge) +5 5\n" "The play on line 1 is A's, so its bonus cannot go to B.\n",
     ),
     (
         "WORD\nAT\nRA\nDT",
-        ">A: DORWAAE 8E WORD +16 16\n"
-        ">B: 9G AT +9 9\n"
-        ">B: (challenge) +20 29\n",
+        ">A: DORWAAE 8E WORD +16 16\n" ">B: 9G AT +9 9\n" ">B: (challenge) +20 29\n",
         "illegal line 3: BadBonus\n"
         "line 3: >B: (challenge) +20 29\n"
         "A bonus is 5 points for each challenged word that is in the word list. 3 words of the play are, so the bonus can be 5, 10 or 15, but 20 is written.\n",
     ),
     (
         "WORD",
-        ">A: DORWAAE 8E WORD +16 16\n"
-        ">A: (challenge) +7 23\n",
+        ">A: DORWAAE 8E WORD +16 16\n" ">A: (challenge) +7 23\n",
         "illegal line 2: BadBonus\n"
         "line 2: >A: (challenge) +7 23\n"
         "A bonus is 5 points for each challenged word that is in the word list. 1 word of the play is, so the bonus can be 5, but 7 is written.\n",
@@ -485,9 +375,7 @@ CHALLENGES = [
 RACKS = [
     (
         "AT",
-        ">A: AEINRST 8H AT +4 4\n"
-        ">B: - +0 0\n"
-        ">A: AAABCDE - +0 4\n",
+        ">A: AEINRST 8H AT +4 4\n" ">B: - +0 0\n" ">A: AAABCDE - +0 4\n",
         "illegal line 3: RackTooBig\n"
         "line 3: >A: AAABCDE - +0 4\n"
         "After line 1 EINRS is left, but line 3 has no I.\n"
@@ -497,9 +385,7 @@ RACKS = [
     ),
     (
         "AT",
-        ">A: AEINRST -1 +0 0\n"
-        ">B: - +0 0\n"
-        ">A: BCDFGHJ - +0 0\n",
+        ">A: AEINRST -1 +0 0\n" ">B: - +0 0\n" ">A: BCDFGHJ - +0 0\n",
         "illegal line 3: NoDeal\n"
         "line 3: >A: BCDFGHJ - +0 0\n"
         "No deal of the tiles gives the players the racks that the lines up to this one show, though no single line shows too much.\n"
@@ -512,10 +398,7 @@ RACKS = [
     ),
     (
         "AT",
-        ">A: DORWAAE 8E WORD +16 16\n"
-        ">B: AEINRST -2 +0 0\n"
-        ">A: - +0 16\n"
-        ">B: AEBCDFG - +0 0\n",
+        ">A: DORWAAE 8E WORD +16 16\n" ">B: AEINRST -2 +0 0\n" ">A: - +0 16\n" ">B: AEBCDFG - +0 0\n",
         "illegal line 4: NoDeal\n"
         "line 4: >B: AEBCDFG - +0 0\n"
         "No deal of the tiles gives the players the racks that the lines up to this one show, though no single line shows too much.\n"
@@ -528,9 +411,7 @@ RACKS = [
     ),
     (
         "AT",
-        ">A: Q -Q +0 0\n"
-        ">B: - +0 0\n"
-        ">A: Q - +0 0\n",
+        ">A: Q -Q +0 0\n" ">B: - +0 0\n" ">A: Q - +0 0\n",
         "illegal line 3: NoDeal\n"
         "line 3: >A: Q - +0 0\n"
         "No deal of the tiles gives the players the racks that the lines up to this one show, though no single line shows too much.\n"
@@ -542,9 +423,7 @@ RACKS = [
     ),
     (
         "AT",
-        ">A: Q -Q +0 0\n"
-        ">B: - +0 0\n"
-        ">A: Q -Q +0 0\n",
+        ">A: Q -Q +0 0\n" ">B: - +0 0\n" ">A: Q -Q +0 0\n",
         "illegal line 3: NoDeal\n"
         "line 3: >A: Q -Q +0 0\n"
         "No deal of the tiles gives the players the racks that the lines up to this one show, though no single line shows too much.\n"
@@ -556,8 +435,7 @@ RACKS = [
     ),
     (
         "AT",
-        ">A: ?? - +0 0\n"
-        ">B: ? - +0 0\n",
+        ">A: ?? - +0 0\n" ">B: ? - +0 0\n",
         "illegal line 2: TilesShort ?\n"
         "line 2: >B: ? - +0 0\n"
         "The game has 2 of the tile ?, but by what the lines up to this one show there would have to be 3: 0 on the board, 2 on A's rack and 1 on B's.\n"
@@ -566,10 +444,7 @@ RACKS = [
     ),
     (
         "QAT",
-        ">A: Q 8F QAT +24 24\n"
-        ">B: AE -2 +0 0\n"
-        ">A: - +0 24\n"
-        ">B: Q - +0 0\n",
+        ">A: Q 8F QAT +24 24\n" ">B: AE -2 +0 0\n" ">A: - +0 24\n" ">B: Q - +0 0\n",
         "illegal line 4: TilesShort Q\n"
         "line 4: >B: Q - +0 0\n"
         "The game has 1 of the tile Q, but by what the lines up to this one show there would have to be 2: 1 on the board, 0 on A's rack and 1 on B's.\n"
@@ -578,11 +453,7 @@ RACKS = [
     ),
     (
         "AT",
-        ">A: AEI -AEI +0 0\n"
-        ">B: - +0 0\n"
-        ">A: BCDFGHJ -BC +0 0\n"
-        ">B: - +0 0\n"
-        ">A: KLMNOPQ - +0 0\n",
+        ">A: AEI -AEI +0 0\n" ">B: - +0 0\n" ">A: BCDFGHJ -BC +0 0\n" ">B: - +0 0\n" ">A: KLMNOPQ - +0 0\n",
         "illegal line 5: RackTooBig\n"
         "line 5: >A: KLMNOPQ - +0 0\n"
         "After line 3 DFGHJ is left, but line 5 has no D.\n"
@@ -667,10 +538,7 @@ SLIPS = [
     (
         "WORD",
         ">A: AADEORW 8E WORD +8 8\n",
-        "illegal line 1: WrongScore 16\n"
-        "line 1: >A: AADEORW 8E WORD +8 8\n"
-        "The play scores 16, but 8 is written.\n"
-        "WORD\n",
+        "illegal line 1: WrongScore 16\n" "line 1: >A: AADEORW 8E WORD +8 8\n" "The play scores 16, but 8 is written.\n" "WORD\n",
     ),
 ]
 
@@ -678,8 +546,7 @@ SLIPS = [
 NOWHERE = [
     (
         "WORD\nAT\nRA\nDT",
-        ">A: DORWAAE 8E WORD +16 16\n"
-        ">B: 9F AT +9 8\n",
+        ">A: DORWAAE 8E WORD +16 16\n" ">B: 9F AT +9 8\n",
         "illegal line 2: WrongScore 8\n"
         "line 2: >B: 9F AT +9 8\n"
         "The play scores 8, but 9 is written.\n"
@@ -688,13 +555,8 @@ NOWHERE = [
     ),
     (
         "WORD\nAT\nRA\nDT",
-        ">A: DORWAAE 8E WORD +16 16\n"
-        ">B: 9F AT +9 9\n"
-        ">A: - +0 17\n",
-        "illegal line 2: WrongScore 8\n"
-        "line 2: >B: 9F AT +9 9\n"
-        "The play scores 8, but 9 is written.\n"
-        "AT\n",
+        ">A: DORWAAE 8E WORD +16 16\n" ">B: 9F AT +9 9\n" ">A: - +0 17\n",
+        "illegal line 2: WrongScore 8\n" "line 2: >B: 9F AT +9 9\n" "The play scores 8, but 9 is written.\n" "AT\n",
     ),
 ]
 
@@ -702,9 +564,7 @@ NOWHERE = [
 ORDERS = [
     (
         "AT",
-        ">A: 8E WORD +16 16\n"
-        ">A: 8E WORD +16 16\n"
-        ">B: - +0 0\n",
+        ">A: 8E WORD +16 16\n" ">A: 8E WORD +16 16\n" ">B: - +0 0\n",
         "illegal line 2: NotYourTurn\n"
         "line 2: >A: 8E WORD +16 16\n"
         "It is B's turn, not A's.\n"
@@ -712,10 +572,7 @@ ORDERS = [
     ),
     (
         "AT",
-        ">A: 8E WORD +16 16\n"
-        ">A: - +0 16\n"
-        "#note\n"
-        ">B: 9G AT +9 9\n",
+        ">A: 8E WORD +16 16\n" ">A: - +0 16\n" "#note\n" ">B: 9G AT +9 9\n",
         "illegal line 2: NotYourTurn\n"
         "line 2: >A: - +0 16\n"
         "It is B's turn, not A's.\n"
@@ -723,9 +580,7 @@ ORDERS = [
     ),
     (
         "AT",
-        ">A: 8E WORD +16 16\n"
-        ">A: - +0 16\n"
-        ">B: - +0 9\n",
+        ">A: 8E WORD +16 16\n" ">A: - +0 16\n" ">B: - +0 9\n",
         "illegal line 2: NotYourTurn\n"
         "line 2: >A: - +0 16\n"
         "It is B's turn, not A's.\n"
@@ -733,9 +588,7 @@ ORDERS = [
     ),
     (
         "AT",
-        ">A: 8E WORD +16 16\n"
-        ">A: 9G AT +9 25\n"
-        ">B: F10 TO +4 4\n",
+        ">A: 8E WORD +16 16\n" ">A: 9G AT +9 25\n" ">B: F10 TO +4 4\n",
         "illegal line 2: NotYourTurn\n"
         "line 2: >A: 9G AT +9 25\n"
         "It is B's turn, not A's.\n"
@@ -743,10 +596,7 @@ ORDERS = [
     ),
     (
         "AT",
-        ">A: 8E WORD +16 16\n"
-        ">A: - +0 16\n"
-        ">B: 9G AT +9 9\n"
-        ">A: - +0 17\n",
+        ">A: 8E WORD +16 16\n" ">A: - +0 16\n" ">B: 9G AT +9 9\n" ">A: - +0 17\n",
         "illegal line 2: NotYourTurn\n"
         "line 2: >A: - +0 16\n"
         "It is B's turn, not A's.\n"
@@ -754,24 +604,13 @@ ORDERS = [
     ),
     (
         "AT",
-        ">A: 8E WORD +16 16\n"
-        ">A: 9G AT +9 9\n"
-        ">A: - +0 16\n"
-        ">B: - +0 9\n",
-        "illegal line 2: NotYourTurn\n"
-        "line 2: >A: 9G AT +9 9\n"
-        "It is B's turn, not A's.\n"
-        "If this is a line of B, the rules allow it.\n",
+        ">A: 8E WORD +16 16\n" ">A: 9G AT +9 9\n" ">A: - +0 16\n" ">B: - +0 9\n",
+        "illegal line 2: NotYourTurn\n" "line 2: >A: 9G AT +9 9\n" "It is B's turn, not A's.\n" "If this is a line of B, the rules allow it.\n",
     ),
     (
         "AT",
-        ">A: 8E WORD +16 16\n"
-        ">A: 9G AT +9 20\n"
-        ">B: - +0 9\n",
-        "illegal line 2: NotYourTurn\n"
-        "line 2: >A: 9G AT +9 20\n"
-        "It is B's turn, not A's.\n"
-        "AT\n",
+        ">A: 8E WORD +16 16\n" ">A: 9G AT +9 20\n" ">B: - +0 9\n",
+        "illegal line 2: NotYourTurn\n" "line 2: >A: 9G AT +9 20\n" "It is B's turn, not A's.\n" "AT\n",
     ),
 ]
 
@@ -780,8 +619,7 @@ ORDERS = [
 NOTES = [
     (
         "AT\nRA",
-        ">A: DORWAAE 8E WORD +16 16\n"
-        ">B: 9G AT +9 9\n",
+        ">A: DORWAAE 8E WORD +16 16\n" ">B: 9G AT +9 9\n",
         "legal unfinished\n"
         "The rules allow every event, and a deal of the tiles gives the players every rack that is shown.\n"
         "Line 1: A's play stands with WORD, which is not in the word list.\n"
@@ -790,10 +628,7 @@ NOTES = [
     ),
     (
         "WORD\nAT",
-        ">A: 8E WORD +16 16\n"
-        ">B: 9G AT +9 9\n"
-        ">B: -- -9 0\n"
-        ">A: DOR - +0 16\n",
+        ">A: 8E WORD +16 16\n" ">B: 9G AT +9 9\n" ">B: -- -9 0\n" ">A: DOR - +0 16\n",
         "legal unfinished\n"
         "The rules allow every event, and a deal of the tiles gives the players every rack that is shown.\n"
         "Each word of every play that stands is in the word list.\n"
@@ -802,8 +637,7 @@ NOTES = [
     ),
     (
         "WORD\nAT\nRA\nDT",
-        ">A: DORWAAE 8E WORD +16 16\n"
-        ">B: AT 9G AT +9 9\n",
+        ">A: DORWAAE 8E WORD +16 16\n" ">B: AT 9G AT +9 9\n",
         "legal unfinished\n"
         "The rules allow every event, and a deal of the tiles gives the players every rack that is shown.\n"
         "Each word of every play that stands is in the word list.\n"
@@ -812,13 +646,7 @@ NOTES = [
     ),
     (
         "AT",
-        ">A: - +0 0\n"
-        ">B: - +0 0\n"
-        ">A: - +0 0\n"
-        ">B: - +0 0\n"
-        ">A: - +0 0\n"
-        ">B: - +0 0\n"
-        ">A: (AEINRST) -7 -7\n",
+        ">A: - +0 0\n" ">B: - +0 0\n" ">A: - +0 0\n" ">B: - +0 0\n" ">A: - +0 0\n" ">B: - +0 0\n" ">A: (AEINRST) -7 -7\n",
         "legal unfinished\n"
         "The rules allow every event, and a deal of the tiles gives the players every rack that is shown.\n"
         "Each word of every play that stands is in the word list.\n"
@@ -827,10 +655,7 @@ NOTES = [
     ),
     (
         "QI",
-        ">A: 8E WORD +16 16\n"
-        ">B: 9G AT +9 9\n"
-        ">A: 10G ES +9 25\n"
-        ">B: 11G AT +11 20\n",
+        ">A: 8E WORD +16 16\n" ">B: 9G AT +9 9\n" ">A: 10G ES +9 25\n" ">B: 11G AT +11 20\n",
         "legal unfinished\n"
         "The rules allow every event, and a deal of the tiles gives the players every rack that is shown.\n"
         "Line 1: A's play stands with WORD, which is not in the word list.\n"
@@ -842,9 +667,7 @@ NOTES = [
     ),
     (
         "AT",
-        ">A: 8E WORD +16 16\n"
-        ">B: 9G AT +9 9\n"
-        ">A: - +0 16\n",
+        ">A: 8E WORD +16 16\n" ">B: 9G AT +9 9\n" ">A: - +0 16\n",
         "legal unfinished\n"
         "The rules allow every event, and a deal of the tiles gives the players every rack that is shown.\n"
         "Line 1: A's play stands with WORD, which is not in the word list.\n"
@@ -858,9 +681,7 @@ RECORDS = [
     (
         "AT",
         ">A 8E WORD +16 16\n",
-        "bad record line 1: NoColon\n"
-        "line 1: >A 8E WORD +16 16\n"
-        "An event begins with >, a nickname and a colon, but this line has no colon.\n",
+        "bad record line 1: NoColon\n" "line 1: >A 8E WORD +16 16\n" "An event begins with >, a nickname and a colon, but this line has no colon.\n",
     ),
     (
         "AT",
@@ -870,29 +691,16 @@ RECORDS = [
         "There is a space or a tab inside the nickname before the colon.\n"
         "Write Ann_Lee.\n",
     ),
+    ("AT", "> : 8E WORD +16 16\n", "bad record line 1: NoColon\n" "line 1: > : 8E WORD +16 16\n" "There is no nickname before the colon.\n"),
     (
         "AT",
-        "> : 8E WORD +16 16\n",
-        "bad record line 1: NoColon\n"
-        "line 1: > : 8E WORD +16 16\n"
-        "There is no nickname before the colon.\n",
+        ">A: - +0 0\n" ">B: - +0 0\n" ">C: - +0 0\n",
+        "bad record line 3: ThirdPlayer\n" "line 3: >C: - +0 0\n" "C is a third nickname: the players are A and B.\n",
     ),
     (
         "AT",
-        ">A: - +0 0\n"
-        ">B: - +0 0\n"
-        ">C: - +0 0\n",
-        "bad record line 3: ThirdPlayer\n"
-        "line 3: >C: - +0 0\n"
-        "C is a third nickname: the players are A and B.\n",
-    ),
-    (
-        "AT",
-        "#player1 A\n"
-        "#player2 A\n",
-        "bad record line 2: ThirdPlayer\n"
-        "line 2: #player2 A\n"
-        "This line gives a player the nickname that the other player already has.\n",
+        "#player1 A\n" "#player2 A\n",
+        "bad record line 2: ThirdPlayer\n" "line 2: #player2 A\n" "This line gives a player the nickname that the other player already has.\n",
     ),
     (
         "AT",
@@ -921,9 +729,7 @@ RECORDS = [
     (
         "AT",
         ">Ann: AEINRSTU - +0 0\n",
-        "bad record line 1: Rack\n"
-        "line 1: >Ann: AEINRSTU - +0 0\n"
-        "AEINRSTU is not a rack: a rack is 1 to 7 tiles, each A to Z or ?.\n",
+        "bad record line 1: Rack\n" "line 1: >Ann: AEINRSTU - +0 0\n" "AEINRSTU is not a rack: a rack is 1 to 7 tiles, each A to Z or ?.\n",
     ),
     (
         "AT",
@@ -942,9 +748,7 @@ RECORDS = [
     (
         "AT",
         ">Ann: 8E W0RD +16 16\n",
-        "bad record line 1: Word\n"
-        "line 1: >Ann: 8E W0RD +16 16\n"
-        "W0RD cannot be the word of a play: a word is 1 to 15 letters and dots.\n",
+        "bad record line 1: Word\n" "line 1: >Ann: 8E W0RD +16 16\n" "W0RD cannot be the word of a play: a word is 1 to 15 letters and dots.\n",
     ),
     (
         "AT",
@@ -971,21 +775,16 @@ RECORDS = [
     (
         "AT",
         ">Ann: - +1234567 0\n",
-        "bad record line 1: Number\n"
-        "line 1: >Ann: - +1234567 0\n"
-        "The score +1234567 is not a number of 1 to 6 digits, with or without a sign.\n",
+        "bad record line 1: Number\n" "line 1: >Ann: - +1234567 0\n" "The score +1234567 is not a number of 1 to 6 digits, with or without a sign.\n",
     ),
     (
         "AT",
         ">Ann: 8H AT +0 0x\n",
-        "bad record line 1: Number\n"
-        "line 1: >Ann: 8H AT +0 0x\n"
-        "The total 0x is not a number of 1 to 6 digits, with or without a sign.\n",
+        "bad record line 1: Number\n" "line 1: >Ann: 8H AT +0 0x\n" "The total 0x is not a number of 1 to 6 digits, with or without a sign.\n",
     ),
     (
         "AT",
-        "#note\r\n"
-        ">Ann: - +0\r\n",
+        "#note\r\n" ">Ann: - +0\r\n",
         "bad record line 2: Fields\n"
         "line 2: >Ann: - +0\n"
         "There are 2 fields after the colon, but an event has 3 to 5.\n"
@@ -997,9 +796,7 @@ RECORDS = [
 LAST_RACKS = [
     (
         "WORD\nAT\nRA\nDT",
-        ">A: DORWAAE 8E WORD +16 16\n"
-        ">B: - +0 0\n"
-        ">A: AAET 9G AT +9 25\n",
+        ">A: DORWAAE 8E WORD +16 16\n" ">B: - +0 0\n" ">A: AAET 9G AT +9 25\n",
         "illegal line 3: RackTooBig\n"
         "line 3: >A: AAET 9G AT +9 25\n"
         "A has 3 tiles here, but by the lines below the rack would have to hold 4: AAET.\n"
@@ -1021,9 +818,7 @@ LAST_RACKS = [
     ),
     (
         "WORD",
-        ">A: 8E WORD +16 16\n"
-        ">B: - +0 0\n"
-        ">A: H8 DATER +0 16\n",
+        ">A: 8E WORD +16 16\n" ">B: - +0 0\n" ">A: H8 DATER +0 16\n",
         "illegal line 3: TooManyUsed\n"
         "line 3: >A: H8 DATER +0 16\n"
         "The play uses 4 tiles, but A has only 3 left.\n"
@@ -1039,64 +834,42 @@ LAST_RACKS = [
     (
         "AT",
         ">A: -AT +0 0\n",
-        "illegal line 1: ExchangeRefused\n"
-        "line 1: >A: -AT +0 0\n"
-        "The bag has 0 tiles, but an exchange is allowed only while it has 7 or more.\n",
+        "illegal line 1: ExchangeRefused\n" "line 1: >A: -AT +0 0\n" "The bag has 0 tiles, but an exchange is allowed only while it has 7 or more.\n",
     ),
     (
         "RETAINS",
-        ">A: 8E RETAINS +64 64\n"
-        ">B: - +0 0\n"
-        ">B: - +0 0\n",
+        ">A: 8E RETAINS +64 64\n" ">B: - +0 0\n" ">B: - +0 0\n",
         "illegal line 3: GameOver\n"
         "line 3: >B: - +0 0\n"
         "A is out, so there are no more turns. What is missing is B's last rack, on a line of A.\n",
     ),
     (
         "RETAINS",
-        ">A: 8E RETAINS +64 64\n"
-        ">B: (AT) +4 4\n",
-        "illegal line 2: NotYourTurn\n"
-        "line 2: >B: (AT) +4 4\n"
-        "A is out, so B's last rack has to be on a line of A, who gets the points.\n",
+        ">A: 8E RETAINS +64 64\n" ">B: (AT) +4 4\n",
+        "illegal line 2: NotYourTurn\n" "line 2: >B: (AT) +4 4\n" "A is out, so B's last rack has to be on a line of A, who gets the points.\n",
     ),
     (
         "RETAINS",
-        ">A: 8E RETAINS +64 64\n"
-        ">B: - +0 0\n"
-        ">A: (R) +2 66\n",
-        "illegal line 3: LastRackSize\n"
-        "line 3: >A: (R) +2 66\n"
-        "The last rack shows 1 tile, but B has 7.\n",
+        ">A: 8E RETAINS +64 64\n" ">B: - +0 0\n" ">A: (R) +2 66\n",
+        "illegal line 3: LastRackSize\n" "line 3: >A: (R) +2 66\n" "The last rack shows 1 tile, but B has 7.\n",
     ),
     (
         "RETAINS",
-        ">A: 8E RETAINS +64 64\n"
-        ">A: (ADEEORT) +8 72\n",
+        ">A: 8E RETAINS +64 64\n" ">A: (ADEEORT) +8 72\n",
         "illegal line 2: WrongScore 16\n"
         "line 2: >A: (ADEEORT) +8 72\n"
         "A gets twice the points of the rack ADEEORT: the score is 16, but 8 is written.\n",
     ),
     (
         "RETAINS",
-        ">A: 8E RETAINS +64 64\n"
-        ">A: (ADEEORT) +16 80\n"
-        ">B: - +0 0\n",
-        "illegal line 3: GameOver\n"
-        "line 3: >B: - +0 0\n"
-        "The game is complete: the last racks are in.\n",
+        ">A: 8E RETAINS +64 64\n" ">A: (ADEEORT) +16 80\n" ">B: - +0 0\n",
+        "illegal line 3: GameOver\n" "line 3: >B: - +0 0\n" "The game is complete: the last racks are in.\n",
     ),
 ]
 
 # An exchange of more tiles than there are in the bag, which has three.
 EXCHANGES = [
-    (
-        "AT",
-        ">A: -5 +0 0\n",
-        "illegal line 1: ExchangeSize\n"
-        "line 1: >A: -5 +0 0\n"
-        "5 tiles cannot be exchanged: A has 7, and the bag has 3.\n",
-    ),
+    ("AT", ">A: -5 +0 0\n", "illegal line 1: ExchangeSize\n" "line 1: >A: -5 +0 0\n" "5 tiles cannot be exchanged: A has 7, and the bag has 3.\n")
 ]
 
 # Lines that are asked for: the status, the line, and a row.
@@ -1115,8 +888,7 @@ ASKED = [
         0,
         2,
         "WORD\nAT\nRA\nDT",
-        ">A: DORWAAE 8E WORD +16 16\n"
-        ">B: 9G AT +9 9\n",
+        ">A: DORWAAE 8E WORD +16 16\n" ">B: 9G AT +9 9\n",
         "legal unfinished\n"
         "line 2: >B: 9G AT +9 9\n"
         "The rules allow this event.\n"
@@ -1138,19 +910,14 @@ ASKED = [
         0,
         2,
         "WORD",
-        ">A: DORWAAE 8E WORD +16 16\n"
-        "#note\n"
-        ">B: - +0 0\n",
-        "legal unfinished\n"
-        "line 3: >B: - +0 0\n"
-        "The rules allow this event.\n",
+        ">A: DORWAAE 8E WORD +16 16\n" "#note\n" ">B: - +0 0\n",
+        "legal unfinished\n" "line 3: >B: - +0 0\n" "The rules allow this event.\n",
     ),
     (
         1,
         2,
         "WORD\nAT\nRA\nDT",
-        ">A: 8E WORD +18 18\n"
-        ">B: 9G AT +9 9\n",
+        ">A: 8E WORD +18 18\n" ">B: 9G AT +9 9\n",
         "illegal line 1: WrongScore 16\n"
         "line 2: >B: 9G AT +9 9\n"
         "The rules do not allow line 1, so this line was not judged.\n"
@@ -1172,8 +939,7 @@ ASKED = [
         1,
         2,
         "WORD\nAT\nRA\nDT",
-        ">A: 8D WORD +18 18\n"
-        ">B: 9G AT +9 9\n",
+        ">A: 8D WORD +18 18\n" ">B: 9G AT +9 9\n",
         "illegal line 1: MissesCentre\n"
         "line 2: >B: 9G AT +9 9\n"
         "The rules do not allow line 1, so this line was not judged.\n"
@@ -1195,13 +961,7 @@ ASKED = [
         "  sum 8 x 2 = 16\n"
         "score of the play: 16\n",
     ),
-    (
-        3,
-        2,
-        "WORD",
-        ">A: DORWAAE 8E WORD +16 16\n",
-        "bad line: no event is on it or after it\n",
-    ),
+    (3, 2, "WORD", ">A: DORWAAE 8E WORD +16 16\n", "bad line: no event is on it or after it\n"),
     (
         3,
         7,
@@ -1218,9 +978,7 @@ ASKED = [
 TOO_MANY = (
     ">A: (time) -5 0\n",
     1001,
-    "bad record line 1001: TooManyEvents\n"
-    "line 1001: >A: (time) -5 0\n"
-    "This is event 1,001, and a record has 1,000 at most.\n",
+    "bad record line 1001: TooManyEvents\n" "line 1001: >A: (time) -5 0\n" "This is event 1,001, and a record has 1,000 at most.\n",
 )
 FOURTEEN, SEVENTEEN = "AADEEINORRSTTW", "AADEEINOOOORRSTTW"
 

@@ -47,7 +47,10 @@ zle -N zle-line-init
 def known(program):
     """What the program knows: the options of its own, and for each command its arguments, options and possible values, and its help."""
     own, commands = completions.known(program)
-    told = {name: (list(map(completions.shown, it.arguments)), named(it.options), [value for one in it.arguments for value in one.values], it.text) for name, it in commands.items()}
+    told = {
+        name: (list(map(completions.shown, it.arguments)), named(it.options), [value for one in it.arguments for value in one.values], it.text)
+        for name, it in commands.items()
+    }
     return named(own.options), told
 
 
@@ -63,7 +66,12 @@ def compare_page(program, commands, failed):
     for name, _, body in sections:
         if name != "help" and not all(re.search(rf"^\.B {value}$", body, re.M) for value in commands[name][2]):
             failed(f"referee.1 does not name {commands[name][2]} of {name}")
-    table = [line.replace("\\|", "|") for line in re.findall(r"^\| `([a-z]+(?: [^`]*)?)` \|", (ROOT / "README.md").read_text().split("## The commands\n")[1].split("\n## ")[0], re.M)]
+    table = [
+        line.replace("\\|", "|")
+        for line in re.findall(
+            r"^\| `([a-z]+(?: [^`]*)?)` \|", (ROOT / "README.md").read_text().split("## The commands\n")[1].split("\n## ")[0], re.M
+        )
+    ]
     wanted = [(name + line).replace("\\-", "-") for name, line, _ in sections if name != "help"]
     if sorted(table) != sorted(wanted):
         failed(f"README.md has the commands\n  {sorted(table)}\nfor\n  {sorted(wanted)}")

@@ -60,7 +60,7 @@ def defined(text, name):
 
 def told(page, words):
     """The keys of the first table after some words, row by row."""
-    rows = page[page.index(words):].split("\n\n| key | what it has |\n|---|---|\n", 1)[1].split("\n\n")[0]
+    rows = page[page.index(words) :].split("\n\n| key | what it has |\n|---|---|\n", 1)[1].split("\n\n")[0]
     return [re.findall(r"`([a-z_]+)`", row.split(" | ")[0]) for row in rows.splitlines()]
 
 

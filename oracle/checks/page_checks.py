@@ -72,7 +72,11 @@ def structure(page):
     orders = [int(it.tag[1]) for it in headings(page)]
     faults = [] if orders and orders[0] == 1 and orders.count(1) == 1 else [f"headings {orders}"]
     faults += [f"headings {orders}" for one, two in zip(orders, orders[1:]) if two > one + 1]
-    faults += [] if page.first("html").attributes.get("lang") and page.first("title").text().strip() and len(page.all("main")) == 1 else ["language, title or main"]
+    faults += (
+        []
+        if page.first("html").attributes.get("lang") and page.first("title").text().strip() and len(page.all("main")) == 1
+        else ["language, title or main"]
+    )
     faults += [f"a link without a name: {it.attributes}" for it in page.all("a") if not it.text().strip() or not it.attributes.get("href")]
     faults += ["a heading without a name" for it in headings(page) if not it.text().strip()]
     return faults + ["a table without heads" for it in page.all("table") if not it.all("th")]

@@ -49,7 +49,9 @@ class Camera:
 
     def open(self, page, size, dark=False, place=""):
         scheme = [{"name": "prefers-color-scheme", "value": "dark" if dark else "light"}]
-        self.driver.execute_cdp_cmd("Emulation.setDeviceMetricsOverride", {"width": size[0], "height": size[1], "deviceScaleFactor": 1, "mobile": size[0] < 500})
+        self.driver.execute_cdp_cmd(
+            "Emulation.setDeviceMetricsOverride", {"width": size[0], "height": size[1], "deviceScaleFactor": 1, "mobile": size[0] < 500}
+        )
         self.driver.execute_cdp_cmd("Emulation.setEmulatedMedia", {"features": scheme})
         self.driver.get("about:blank")
         self.driver.get((self.folder / f"{page}.html").as_uri() + place)
@@ -95,14 +97,23 @@ def long_game():
 def document(program, folder, camera):
     """The pictures of README.md and docs/ARCHIVE.md."""
     games = samples()
-    rounds = {"round1/ann-bob.gcg": games["game"], "round1/ann-bob-by-hand.gcg": games["fault"], "round2/ann.gcg": games["one"], "round2/notes.gcg": games["no-record"]}
+    rounds = {
+        "round1/ann-bob.gcg": games["game"],
+        "round1/ann-bob-by-hand.gcg": games["fault"],
+        "round2/ann.gcg": games["one"],
+        "round2/notes.gcg": games["no-record"],
+    }
     for name, game in rounds.items():
         (folder / name).parent.mkdir(exist_ok=True)
         (folder / name).write_bytes(game)
     for name in ("words.txt", "words.gad"):
         shutil.copy(ROOT / "examples" / name, folder)
     subprocess.run([program, "archive", "--repairs", "--pages", ".", "words.txt", "words.gad", *rounds], cwd=folder, capture_output=True, check=False)
-    pictures = [("round1/ann-bob", (1120, 730), "page-game", "#l13"), ("round1/ann-bob-by-hand", (360, 730), "page-fault", ""), ("index", (760, 330), "page-index", "")]
+    pictures = [
+        ("round1/ann-bob", (1120, 730), "page-game", "#l13"),
+        ("round1/ann-bob-by-hand", (360, 730), "page-fault", ""),
+        ("index", (760, 330), "page-index", ""),
+    ]
     for page, size, to, place in pictures:
         camera.open(page, size, place=place)
         camera.take(folder / f"{to}.png")

@@ -79,8 +79,16 @@ class Pages:
 
     def run(self, script):
         """What a script prints, and its status."""
-        ran = subprocess.run(["bash", "-c", script], cwd=self.folder, env=self.env, stdout=subprocess.PIPE, stderr=subprocess.STDOUT,
-                             stdin=subprocess.DEVNULL, check=False, timeout=60)
+        ran = subprocess.run(
+            ["bash", "-c", script],
+            cwd=self.folder,
+            env=self.env,
+            stdout=subprocess.PIPE,
+            stderr=subprocess.STDOUT,
+            stdin=subprocess.DEVNULL,
+            check=False,
+            timeout=60,
+        )
         return ran.stdout.decode(), ran.returncode
 
     def take_page(self, page, folder):

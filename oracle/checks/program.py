@@ -24,9 +24,7 @@ from hints import beside
 from repair_rows import NOT_DEALT, OPEN, SHORT_OF
 
 AT_FILE = bytes.fromhex("47414431 05000000 04000000 01000000 74000000 c0000000 61000000 01010000 d4010000")
-AT_IT_FILE = bytes.fromhex(
-    "47414431 07000000 05000000 02000000 74000000 c0000000 21000000 69000000 01010000 09010000 d4010000"
-)
+AT_IT_FILE = bytes.fromhex("47414431 07000000 05000000 02000000 74000000 c0000000 21000000 69000000 01010000 09010000 d4010000")
 EMPTY_FILE = bytes.fromhex("47414431 00000000 00000000 00000000")
 AT_MASKS = bytes.fromhex(
     "47414432 0d000000 0a000000 01000000 00001080 00001000 00000000 01000080 00000000 01000000"
@@ -272,14 +270,30 @@ def changes_of(file, front, *rows):
 
 
 AT_CHANGES = changes_of(
-    AT_FILE, "",
-    "magic 0 48 Magic", "root 8 05 Root", "no-root 8 00 Root", "label 16 7b Label", "order 32 c1 Order", "dead 16 54 DeadArc",
-    "open 32 94 OpenRun", "target 20 40010000 Target", "extra 28 21010000 Extra A", "count 12 02 WordCount",
+    AT_FILE,
+    "",
+    "magic 0 48 Magic",
+    "root 8 05 Root",
+    "no-root 8 00 Root",
+    "label 16 7b Label",
+    "order 32 c1 Order",
+    "dead 16 54 DeadArc",
+    "open 32 94 OpenRun",
+    "target 20 40010000 Target",
+    "extra 28 21010000 Extra A",
+    "count 12 02 WordCount",
 )
 MASK_CHANGES = changes_of(
-    AT_MASKS, "masks-",
-    "root 8 0b Root", "mask 16 00001088 Mask", "no-mark 28 01000000 NoMark", "accept 32 02000000 Accept", "target 36 04000000 Target",
-    "dead 20 00000000 DeadArc", "open 52 06001080 OpenRun", "extra 56 02000000 Extra A",
+    AT_MASKS,
+    "masks-",
+    "root 8 0b Root",
+    "mask 16 00001088 Mask",
+    "no-mark 28 01000000 NoMark",
+    "accept 32 02000000 Accept",
+    "target 36 04000000 Target",
+    "dead 20 00000000 DeadArc",
+    "open 52 06001080 OpenRun",
+    "extra 56 02000000 Extra A",
 )
 CHANGED = {  # the lexicon of AT with one change, and the line that tells it
     **AT_CHANGES,
@@ -310,7 +324,9 @@ def files(folder):
     Path(folder, "utf-16").write_bytes(WORD.encode("utf-16"))
     Path(folder, "latin").write_bytes(WORD.replace("A:", "\u00c9va:").encode("latin-1"))
     Path(folder, "latin-stated").write_bytes(("#character-encoding ISO-8859-1\n" + WORD.replace("A:", "\u00c9va:")).encode("latin-1"))
-    Path(folder, "latin-wrong").write_bytes(("#character-encoding iso-8859-1\r\n" + WORD.replace("A:", "\u00c9va:").replace("16\n", "17\n")).encode("latin-1"))
+    Path(folder, "latin-wrong").write_bytes(
+        ("#character-encoding iso-8859-1\r\n" + WORD.replace("A:", "\u00c9va:").replace("16\n", "17\n")).encode("latin-1")
+    )
     Path(folder, "latin-third").write_bytes("#character-encoding ISO-8859-1\n>A: - +0 0\n>B: - +0 0\n>\u00c9va: - +0 0\n".encode("latin-1"))
     Path(folder, "gzip").write_bytes(gzip.compress(WORD.encode()))
     Path(folder, "zip").write_bytes(b"PK\3\4" + bytes(26) + WORD.encode())
@@ -800,7 +816,12 @@ def from_standard_input(run):
         run.row(words, 4, error="referee: cannot open -: no such file", stdin="AT\n")
     run.row(["convert", "gad2", "-", "out"], 4, error="referee: cannot open -: no such file", stdin="AT\n")
     run.row(["judge", "--rules", "-", "word", "word.gad", "line"], 4, error="referee: cannot open -: no such file", stdin=ENGLISH_RULES)
-    for words in (["judge", "-", "at.gad", "-"], ["top", "-", "at.gad", "-", "A"], ["archive", "-", "at.gad", "-"], ["archive", "at", "at.gad", "-", "-"]):
+    for words in (
+        ["judge", "-", "at.gad", "-"],
+        ["top", "-", "at.gad", "-", "A"],
+        ["archive", "-", "at.gad", "-"],
+        ["archive", "at", "at.gad", "-", "-"],
+    ):
         run.row(words, 64, error=None, stdin="AT\n")
     run.row(["archive", "--names", "-", "-", "at.gad"], 64, error=None, stdin="AT\n")
     run.row(["judge", "--", "-", "at.gad", "-"], 64, error=None, stdin="AT\n")
@@ -834,8 +855,11 @@ def fielded(run):
             run.row(["judge", "--first-field", *more, "fields", name, "number"], 3, bad or "bad record line 1: Number\n")
         for more in ([], ["--rules", "english.rules"]):
             run.row(["top", *more, "fields", name, "number", "A", "--first-field"], 3, bad or "bad record line 1: Number\n")
-        run.row(["archive", "--first-field", "fields", name, "nowhere"], 4 if listed else 3,
-                bad or "nowhere\tunread\t-\t-\tcannot open\t-\t-\t-\t-\t-\t-\t-\n")
+        run.row(
+            ["archive", "--first-field", "fields", name, "nowhere"],
+            4 if listed else 3,
+            bad or "nowhere\tunread\t-\t-\tcannot open\t-\t-\t-\t-\t-\t-\t-\n",
+        )
     Path(run.folder, "fields").write_text("AT 4\n")
     run.row(["check", "--first-field", "fields", "it-at.gad"], 3, "bad lexicon: Extra I\n")
     run.row(["top", "--first-field", "fields", "at.gad", "nothing", "?A"], 0, "8G At 2\n8H At 2\nH7 At 2\nH8 At 2\n")
@@ -847,8 +871,12 @@ def fielded(run):
     run.row(["check", "--first-field", "long-list", "at.gad"], 3, "bad word list: TooLong\n")
     run.row(["check", "--first-field", "folder", "at.gad"], 4, error="referee: read failed: folder: is a folder")
     run.row(["check", "--first-field", "nowhere", "at.gad"], 4, error="referee: cannot open nowhere: no such file")
-    for words in (["tidy", "--first-field", "line"], ["convert", "--first-field", "gad2", "at.gad", "out"],
-                  ["check", "--first-field", "--first-field", "at", "at.gad"], ["check", "--first-field=1", "at", "at.gad"]):
+    for words in (
+        ["tidy", "--first-field", "line"],
+        ["convert", "--first-field", "gad2", "at.gad", "out"],
+        ["check", "--first-field", "--first-field", "at", "at.gad"],
+        ["check", "--first-field=1", "at", "at.gad"],
+    ):
         run.row(words, 64, error=None)
 
 
@@ -866,13 +894,21 @@ def skipped(run):
     run.row(["top", "--json", "--skip-others", "people", "it-at.gad", "with-blank", "--before", "9"], 3, refusal("bad line"), error=plain)
     run.row(["check", "people", "it-at.gad"], 3, "bad word list line 2: BadLetter\n")
     run.row(["check", "--skip-others", "people", "nowhere"], 4, error="referee: cannot open nowhere: no such file")
-    for command, out in (("judge", "legal unfinished\n1 A - +0 0 best 8G At 2\n"), ("audit", "legal unfinished\nboth have the same total\n"), ("explain", f"legal unfinished\n{STANDS}"),
-                         ("archive", "with-blank\tlegal\tunfinished\t-\t-\t1\tA\t0\t-\t-\t0\t0\n")):
+    for command, out in (
+        ("judge", "legal unfinished\n1 A - +0 0 best 8G At 2\n"),
+        ("audit", "legal unfinished\nboth have the same total\n"),
+        ("explain", f"legal unfinished\n{STANDS}"),
+        ("archive", "with-blank\tlegal\tunfinished\t-\t-\t1\tA\t0\t-\t-\t0\t0\n"),
+    ):
         run.row([command, "--skip-others", "people", "it-at.gad", "with-blank"], 0, None if command == "judge" else out, error=plain)
     run.row(["page", "--skip-others", "people", "it-at.gad", "with-blank", "out"], 0, "legal unfinished\n", error=plain)
     run.row(["top", "--skip-others", "people", "it-at.gad", "nothing", "?A"], 0, "8G At 2\n8H At 2\nH7 At 2\nH8 At 2\n", error=plain)
-    for words in (["tidy", "--skip-others", "line"], ["convert", "--skip-others", "gad2", "at.gad", "out"], ["board", "--skip-others", "line"],
-                  ["check", "--skip-others", "--skip-others", "at", "at.gad"]):
+    for words in (
+        ["tidy", "--skip-others", "line"],
+        ["convert", "--skip-others", "gad2", "at.gad", "out"],
+        ["board", "--skip-others", "line"],
+        ["check", "--skip-others", "--skip-others", "at", "at.gad"],
+    ):
         run.row(words, 64, error=None)
 
 
@@ -896,8 +932,12 @@ def words_ruled(run):
     run.row(["word", "-", "at.gad", "at"], 0, "acceptable\n", stdin="AT\n")
     Path(run.folder, "scored").write_text("# of a club\nAT 2\nIT\t2 a pronoun\n")
     run.row(["word", "--first-field", "scored", "it-at.gad", "it"], 0, "acceptable\n")
-    run.row(["word", "--skip-others", "people", "it-at.gad", "it"], 0, "acceptable\n",
-            error='referee: people: lines that are not words, passed over: 5; the first is line 2, "it\'s"')
+    run.row(
+        ["word", "--skip-others", "people", "it-at.gad", "it"],
+        0,
+        "acceptable\n",
+        error='referee: people: lines that are not words, passed over: 5; the first is line 2, "it\'s"',
+    )
     for words in ([], ["at"], ["--loud", *at, "at"], ["--rules", "english.rules", *at, "at"]):
         run.row(["word", *words], 64, error=None)
     run.row(["word", *at], 64, error=None)
@@ -909,11 +949,22 @@ def words_ruled(run):
 def unreadable(run):
     """Standard input that cannot be read is named so."""
     folder = os.open(run.folder, os.O_RDONLY)
-    for words in (["judge", "-", "at.gad", "line"], ["judge", "at", "at.gad", "-"], ["judge", "--rules", "english.rules", "at", "at.gad", "-"],
-                  ["top", "-", "at.gad", "line", "A"], ["top", "--rules", "english.rules", "at", "at.gad", "-", "A"], ["tidy", "-"],
-                  ["check", "-", "at.gad"], ["build", "-", "out"], ["archive", "-", "at.gad", "line"], ["archive", "--names", "-", "at", "at.gad"]):
+    for words in (
+        ["judge", "-", "at.gad", "line"],
+        ["judge", "at", "at.gad", "-"],
+        ["judge", "--rules", "english.rules", "at", "at.gad", "-"],
+        ["top", "-", "at.gad", "line", "A"],
+        ["top", "--rules", "english.rules", "at", "at.gad", "-", "A"],
+        ["tidy", "-"],
+        ["check", "-", "at.gad"],
+        ["build", "-", "out"],
+        ["archive", "-", "at.gad", "line"],
+        ["archive", "--names", "-", "at", "at.gad"],
+    ):
         ran = subprocess.run([run.program, *words], stdin=folder, cwd=run.folder, capture_output=True, check=False)
-        run.expect(f"{words} of a folder", (ran.returncode, ran.stdout, ran.stderr) == (4, b"", b"referee: read failed: standard input: is a folder\n"))
+        run.expect(
+            f"{words} of a folder", (ran.returncode, ran.stdout, ran.stderr) == (4, b"", b"referee: read failed: standard input: is a folder\n")
+        )
     ran = subprocess.run([run.program, "archive", "at", "at.gad", "-"], stdin=folder, cwd=run.folder, capture_output=True, check=False)
     run.expect("a game that is a folder", (ran.returncode, ran.stdout.split(b"\t")[:5]) == (4, [b"-", b"unread", b"-", b"-", b"read failed"]))
     os.close(folder)
@@ -992,20 +1043,31 @@ def boarded(run):
     run.row(["board", "--before", "1", "line-8d"], 0, board_of("before line 1", "A 0\n 0\nrack AADEORW\n"))
     run.row(["board", "line-8d"], 0, board_of("before line 1, whose play cannot be laid: MissesCentre", "A 0\n 0\nrack AADEORW\n"))
     # A blank is small, and a blank of the tiles that are left; lines of players and remarks are none.
-    blank = board_of("after the last event", "Ann 14\nBob 0\n", (ROW_OF_WORD[0], ROW_OF_WORD[1].replace("R", "r")), *WITHOUT_WORD, ("R 5", "R 6"), ("? 2", "? 1"))
+    blank = board_of(
+        "after the last event", "Ann 14\nBob 0\n", (ROW_OF_WORD[0], ROW_OF_WORD[1].replace("R", "r")), *WITHOUT_WORD, ("R 5", "R 6"), ("? 2", "? 1")
+    )
     run.row(["board", "blank-word"], 0, blank)
     run.row(["board", "--before", "2", "blank-word"], 0, board_of("before line 4", "Ann 0\nBob 0\nrack DOW?\n"))
     run.row(["board", "number"], 3, "bad record line 1: Number\n")
     run.row(["board", "--before", "9", "number"], 3, "bad record line 1: Number\n")
-    more = [("board: 100", "board: 200"), ("  A 9  B 2  C 2  D 4  E 12  F 2  G 3  H 2  I 9", "  A 18  B 4  C 4  D 8  E 24  F 4  G 6  H 4  I 18"),
-            ("  J 1  K 1  L 4  M 2  N 6  O 8  P 2  Q 1  R 6", "  J 2  K 2  L 8  M 4  N 12  O 16  P 4  Q 2  R 12"),
-            ("  S 4  T 6  U 4  V 2  W 2  X 1  Y 2  Z 1  ? 2", "  S 8  T 12  U 8  V 4  W 4  X 2  Y 4  Z 2  ? 4")]
+    more = [
+        ("board: 100", "board: 200"),
+        ("  A 9  B 2  C 2  D 4  E 12  F 2  G 3  H 2  I 9", "  A 18  B 4  C 4  D 8  E 24  F 4  G 6  H 4  I 18"),
+        ("  J 1  K 1  L 4  M 2  N 6  O 8  P 2  Q 1  R 6", "  J 2  K 2  L 8  M 4  N 12  O 16  P 4  Q 2  R 12"),
+        ("  S 4  T 6  U 4  V 2  W 2  X 1  Y 2  Z 1  ? 2", "  S 8  T 12  U 8  V 4  W 4  X 2  Y 4  Z 2  ? 4"),
+    ]
     run.row(["board", "--rules", "two-sets.rules", "nothing"], 0, board_of("after the last event", " 0\n 0\n", *more))
     run.row(["board", "--rules", "tiles.rules", "folder"], 3, "bad rules line 1: Unknown\n")
     run.row(["board", "--rules", "nowhere", "elsewhere"], 4, error="referee: cannot open nowhere: no such file")
     run.row(["board", "nowhere"], 4, error="referee: cannot open nowhere: no such file")
     run.row(["board", "folder"], 4, error="referee: read failed: folder: is a folder")
-    for words in (["--before", "line"], ["--before", "-1", "line"], ["--before", "x", "line"], ["--before", "4294967296", "line"], ["--settle", "line"]):
+    for words in (
+        ["--before", "line"],
+        ["--before", "-1", "line"],
+        ["--before", "x", "line"],
+        ["--before", "4294967296", "line"],
+        ["--settle", "line"],
+    ):
         run.row(["board", *words], 64, error=None)
 
 
@@ -1055,7 +1117,12 @@ def archived_repairs(run):
     Path(run.folder, "of-other").write_text("#player2 B\n" + WORD + ">A: AT 9G AT +9 9\n>A: - +0 16\n")
     rows = [  # a game, its line but for its name, its page, and its likely repair
         ("line", "legal unfinished - - 1 A 16 - - 0", "line%.html", ("-", "-")),
-        ("stands-twice", "illegal - 3 NotYourTurn 3 A 16 B 9 -", "stands-twice%.html", ("line 3: it repeats the line before it and should not be there", "4 of 4")),
+        (
+            "stands-twice",
+            "illegal - 3 NotYourTurn 3 A 16 B 9 -",
+            "stands-twice%.html",
+            ("line 3: it repeats the line before it and should not be there", "4 of 4"),
+        ),
         ("of-other", "illegal - 3 NotYourTurn 3 A 16 B - -", "of-other%.html", ("line 3: B's line, not A's", "6 of 6")),
         ("line-18", "illegal - 1 WrongScore_16 1 A 18 - - -", "line-18%.html", ("-", "-")),
         ("third", "bad_record - 3 ThirdPlayer - - - - - -", "-", ("-", "-")),
@@ -1067,7 +1134,9 @@ def archived_repairs(run):
     paged = ["\t".join([*told_of(name, text), page, *repair, unread_field(text)]) + "\n" for name, text, page, repair in rows]
     run.row(["archive", "--repairs", "word-at-ra", "word-at-ra.gad", *names], 4, "".join(lines))
     run.row(["archive", "--repairs", "--pages", "pages/repaired", "word-at-ra", "word-at-ra.gad", *names], 4, "".join(paged))
-    objects = subprocess.run([run.program, "archive", "--repairs", "--json", "word-at-ra", "word-at-ra.gad", *names], cwd=run.folder, capture_output=True, check=False)
+    objects = subprocess.run(
+        [run.program, "archive", "--repairs", "--json", "word-at-ra", "word-at-ra.gad", *names], cwd=run.folder, capture_output=True, check=False
+    )
     told = [json.loads(text)["likely"] for text in objects.stdout.decode().splitlines()]
     keys = ("change", "numbers_right")
     run.expect("likely repairs in JSON", told == [dict(zip(keys, (None if it == "-" else it for it in repair))) for _, _, _, repair in rows])
@@ -1098,8 +1167,12 @@ def archived_names(run):
     Path(run.folder, "slashed").write_text(WORD.replace("A:", "a\\b:"))
     run.row(["archive", "word", "word.gad", "slashed"], 0, "slashed" + legal.replace("A", "a\\\\b"))
     objects = ["two\\nlines", "back\\\\slash", "tab\\there", "caf\u00e9", "\ufffdva"]
-    told = subprocess.run([run.program, "archive", "--json", "word", "word.gad", "two\nlines", "back\\slash", "tab\there", "caf\u00e9", "latin"],
-                          cwd=run.folder, capture_output=True, check=False).stdout.decode()
+    told = subprocess.run(
+        [run.program, "archive", "--json", "word", "word.gad", "two\nlines", "back\\slash", "tab\there", "caf\u00e9", "latin"],
+        cwd=run.folder,
+        capture_output=True,
+        check=False,
+    ).stdout.decode()
     read = [json.loads(text) for text in told.splitlines()]
     run.expect("names in JSON", [it["name"] for it in read] == ["two\nlines", "back\\slash", "tab\there", "caf\u00e9", "latin"])
     run.expect("how JSON writes them", all(text in told for text in objects) and read[-1]["player1"] == "\ufffdva")
@@ -1119,26 +1192,63 @@ def archived_inputs(run):
         games = [] if "--names" in words else ["line"]
         run.row(["archive", *words, *games], 4, error="referee: read failed: folder: is a folder")
     run.row(["archive", "--rules", "two-sets.rules", "at", "at.gad", "blanks"], 0, "blanks\tlegal\tunfinished\t-\t-\t2\tA\t0\tB\t0\t0\t0\n")
-    run.row(["archive", "--rules", "fourteen.rules", "retains", "retains.gad", "goes-out"], 0, "goes-out\tlegal\tcomplete\t-\t-\t2\tA\t88\t-\t-\t0\t0\n")
+    run.row(
+        ["archive", "--rules", "fourteen.rules", "retains", "retains.gad", "goes-out"], 0, "goes-out\tlegal\tcomplete\t-\t-\t2\tA\t88\t-\t-\t0\t0\n"
+    )
     run.row(["archive", "many", "at.gad", "line"], 4, error="referee: no memory", room=1 << 23)
     if os.path.exists("/dev/full"):
-        run.row(["archive", "word", "word.gad", "nowhere", "line"], 4, error="referee: write failed: standard output: no space left, error 28 of the system", stdout="/dev/full")
-        run.row(["archive", "digit", "word.gad", "line"], 4, error="referee: write failed: standard output: no space left, error 28 of the system", stdout="/dev/full")
+        run.row(
+            ["archive", "word", "word.gad", "nowhere", "line"],
+            4,
+            error="referee: write failed: standard output: no space left, error 28 of the system",
+            stdout="/dev/full",
+        )
+        run.row(
+            ["archive", "digit", "word.gad", "line"],
+            4,
+            error="referee: write failed: standard output: no space left, error 28 of the system",
+            stdout="/dev/full",
+        )
 
 
 PAGED = [  # a game, its line but for its name and its page, the page, and the verdict, the totals and the result in the index
     ("line", "legal unfinished - - 1 A 16 - - 0", "line%.html", ["\u2713 legal: unfinished", "A", "16", "", "", "A is ahead by 16"]),
     ("./line", "legal unfinished - - 1 A 16 - - 0", "%./line%.html", ["\u2713 legal: unfinished", "A", "16", "", "", "A is ahead by 16"]),
-    ("folder/../line", "legal unfinished - - 1 A 16 - - 0", "folder/%../line%.html", ["\u2713 legal: unfinished", "A", "16", "", "", "A is ahead by 16"]),
+    (
+        "folder/../line",
+        "legal unfinished - - 1 A 16 - - 0",
+        "folder/%../line%.html",
+        ["\u2713 legal: unfinished", "A", "16", "", "", "A is ahead by 16"],
+    ),
     ("index", "legal unfinished - - 1 A 16 - - 0", "index%.html", ["\u2713 legal: unfinished", "A", "16", "", "", "A is ahead by 16"]),
     ("index.gcg", "legal unfinished - - 1 A 16 - - 0", "index.gcg%.html", ["\u2713 legal: unfinished", "A", "16", "", "", "A is ahead by 16"]),
     ("r1/final.gcg", "legal unfinished - - 1 A 16 - - 0", "r1/final.html", ["\u2713 legal: unfinished", "A", "16", "", "", "A is ahead by 16"]),
-    ("r2/final.gcg", "illegal - 1 WrongTotal_16 1 A 17 - - -", "r2/final.html", ["\u2717 illegal line 1: the total is wrong WrongTotal 16", "A", "17", "", "", "A is ahead by 17"]),
+    (
+        "r2/final.gcg",
+        "illegal - 1 WrongTotal_16 1 A 17 - - -",
+        "r2/final.html",
+        ["\u2717 illegal line 1: the total is wrong WrongTotal 16", "A", "17", "", "", "A is ahead by 17"],
+    ),
     ("r2/100%", "legal unfinished - - 1 A 16 - - 0", "r2/100%25%.html", ["\u2713 legal: unfinished", "A", "16", "", "", "A is ahead by 16"]),
     ("<b>&\"'.gcg", "legal unfinished - - 1 A 16 - - 0", "<b>&\"'.html", ["\u2713 legal: unfinished", "A", "16", "", "", "A is ahead by 16"]),
-    ("latin-stated", "legal unfinished - - 1 \u00c9va 16 - - 0", "latin-stated%.html", ["\u2713 legal: unfinished", "\u00c9va", "16", "", "", "\u00c9va is ahead by 16"]),
-    ("unlisted", "legal unfinished - - 2 A 16 B 9 1", "unlisted%.html", ["\u2713 legal: unfinished, 1 play with an unlisted word", "A", "16", "B", "9", "A is ahead by 7"]),
-    ("turn", "illegal - 2 NotYourTurn 2 A 16 - - -", "turn%.html", ["\u2717 illegal line 2: it is the other player's turn NotYourTurn", "A", "16", "", "", "A is ahead by 16"]),
+    (
+        "latin-stated",
+        "legal unfinished - - 1 \u00c9va 16 - - 0",
+        "latin-stated%.html",
+        ["\u2713 legal: unfinished", "\u00c9va", "16", "", "", "\u00c9va is ahead by 16"],
+    ),
+    (
+        "unlisted",
+        "legal unfinished - - 2 A 16 B 9 1",
+        "unlisted%.html",
+        ["\u2713 legal: unfinished, 1 play with an unlisted word", "A", "16", "B", "9", "A is ahead by 7"],
+    ),
+    (
+        "turn",
+        "illegal - 2 NotYourTurn 2 A 16 - - -",
+        "turn%.html",
+        ["\u2717 illegal line 2: it is the other player's turn NotYourTurn", "A", "16", "", "", "A is ahead by 16"],
+    ),
     ("nothing", "no_game - - - 0 - - - - 0", "-", ["\u2013 no game: it is empty", "", "", "", "", ""]),
     ("third", "bad_record - 3 ThirdPlayer - - - - - -", "-", ["\u2013 bad record line 3: there is a third nickname ThirdPlayer", "", "", "", "", ""]),
     ("nowhere", "unread - - cannot_open - - - - - -", "-", ["\u2013 unread: cannot open", "", "", "", "", ""]),
@@ -1154,7 +1264,14 @@ COUNTED = ["\u2713 10 legal", "\u2717 2 illegal", "\u2013 1 bad record", "\u2013
 def archived_pages(run):
     """`archive --pages`: a page for each game that is read, by the name of the game alone, and their index."""
     pages, names = Path(run.folder, "pages/of/games"), [name for name, _, _, _ in PAGED]
-    for name, text in [("index", WORD), ("index.gcg", WORD), ("<b>&\"'.gcg", WORD), ("r1/final.gcg", WORD), ("r2/final.gcg", TEXTS["line-17"]), ("r2/100%", WORD)]:
+    for name, text in [
+        ("index", WORD),
+        ("index.gcg", WORD),
+        ("<b>&\"'.gcg", WORD),
+        ("r1/final.gcg", WORD),
+        ("r2/final.gcg", TEXTS["line-17"]),
+        ("r2/100%", WORD),
+    ]:
         Path(run.folder, name).parent.mkdir(exist_ok=True)
         Path(run.folder, name).write_text(text)
     lines = ["\t".join([*told_of(name, text), page, unread_field(text)]) + "\n" for name, text, page, _ in PAGED]
@@ -1176,7 +1293,9 @@ def archived_pages(run):
     run.expect("the rows of the index", [[it.text() for it in row.all("td")] for row in rows] == [[name, *paged[name][1]] for name in IN_ORDER])
     links = [[unquote(it.attributes["href"]) for it in row.all("a")] for row in rows]
     run.expect("the links of the index", links == [[paged[name][0]] if paged[name][0] != "-" else [] for name in IN_ORDER])
-    told = subprocess.run([run.program, "archive", "--json", "--pages", "pages", "word", "word.gad", *names], cwd=run.folder, capture_output=True, check=False)
+    told = subprocess.run(
+        [run.program, "archive", "--json", "--pages", "pages", "word", "word.gad", *names], cwd=run.folder, capture_output=True, check=False
+    )
     objects = [json.loads(text) for text in told.stdout.decode().splitlines()]
     named = all(list(it) == [*FIELDS[:-1], "page", "fault_name", "expected", FIELDS[-1]] for it in objects)
     run.expect("pages in JSON", named and [it["page"] or "-" for it in objects] == [page for _, _, page, _ in PAGED])
@@ -1196,13 +1315,31 @@ def named_pages(run):
         Path(folder, f"{name}.gcg").write_text(text)
     run.row(["build", "word-at-ra", "word-at-ra.gad"], 0)
     words, games = ["word-at-ra", "word-at-ra.gad"], [f"rounds/{name}.gcg" for name in sorted(texts)]
-    told = subprocess.run([run.program, "archive", "--repairs", "--pages", "rounded", *words, *games], cwd=run.folder, capture_output=True, check=False)
+    told = subprocess.run(
+        [run.program, "archive", "--repairs", "--pages", "rounded", *words, *games], cwd=run.folder, capture_output=True, check=False
+    )
     read = web.read(Path(run.folder, "rounded/index.html").read_bytes()).first("tbody").all("tr")
     likely = "line 1: WORD at 8E, not at 9E"
     cells = {
-        "t1": ["rounds/t1.gcg", f"\u2717 illegal line 1: the first play misses the centre MissesCentrelikely: {likely}", "A", "16", "", "", "A is ahead by 16"],
+        "t1": [
+            "rounds/t1.gcg",
+            f"\u2717 illegal line 1: the first play misses the centre MissesCentrelikely: {likely}",
+            "A",
+            "16",
+            "",
+            "",
+            "A is ahead by 16",
+        ],
         "t02": ["rounds/t02.gcgFinal <3>", "\u2713 legal: unfinished", "Ann \u05d0", "16", "Bob", "", "Ann \u05d0 is ahead by 16"],
-        "t2": ["rounds/t2.gcgFinal <3>", "\u2713 legal: unfinished, 1 play with an unlisted word", "Ann \u05d0", "16", "Bob", "9", "Ann \u05d0 is ahead by 7"],
+        "t2": [
+            "rounds/t2.gcgFinal <3>",
+            "\u2713 legal: unfinished, 1 play with an unlisted word",
+            "Ann \u05d0",
+            "16",
+            "Bob",
+            "9",
+            "Ann \u05d0 is ahead by 7",
+        ],
         "t10": ["rounds/t10.gcgFinal <3>", "\u2713 legal: unfinished", "Ann \u05d0", "16", "Bob", "", "Ann \u05d0 is ahead by 16"],
     }
     found = [[it.text() for it in row.all("td")] for row in read]
@@ -1218,7 +1355,12 @@ def named_pages(run):
 def kept_inputs(run):
     """Pages that would be written over an input: the run is refused before anything is written, where the games are known before it."""
     legal = "legal\tunfinished\t-\t-\t1\tA\t16\t-\t-\t0"
-    for folder, page, name in [("over-words", "index.html", "word"), ("over-game", "line%.html", "line"), ("over-other", "other%.html", "line"), ("over-list", "line%.html", "names-of-one")]:
+    for folder, page, name in [
+        ("over-words", "index.html", "word"),
+        ("over-game", "line%.html", "line"),
+        ("over-other", "other%.html", "line"),
+        ("over-list", "line%.html", "names-of-one"),
+    ]:
         Path(run.folder, folder).mkdir()
         Path(run.folder, folder, page).symlink_to(f"../{name}")
     Path(run.folder, "other").write_text(WORD)
@@ -1239,7 +1381,10 @@ def kept_inputs(run):
     # A link that leads to no input is followed.
     Path(run.folder, "over-other/line%.html").symlink_to("../elsewhere.html")
     run.row(["archive", "--pages", "over-other", "word", "word.gad", "line"], 0, f"line\t{legal}\tline%.html\t0\n")
-    run.expect("the page behind a link", Path(run.folder, "elsewhere.html").read_bytes().startswith(b"<!DOCTYPE html>") and Path(run.folder, "over-other/line%.html").is_symlink())
+    run.expect(
+        "the page behind a link",
+        Path(run.folder, "elsewhere.html").read_bytes().startswith(b"<!DOCTYPE html>") and Path(run.folder, "over-other/line%.html").is_symlink(),
+    )
 
 
 def indexed(run, lines, objects, whole):
@@ -1257,12 +1402,29 @@ def indexed(run, lines, objects, whole):
     run.expect("no links", not any(row.all("a") for row in rows))
     run.row(["index", "-", "out"], 0, stdin="")
     Path(run.folder, "out").write_bytes(b"as it was")
-    for bad in ("line\n", "\n", lines[0].replace("legal", "lawful"), lines[0].replace("16", "x"), lines[0].replace("line%.html", "a\tb\tc\td"), lines[0][:-1], "{}\n",
-                objects.split("\n")[0].replace('"legal"', '"lawful"') + "\n", objects.split("\n")[0][:-1] + "\n"):
-        run.row(["index", "-", "out"], 3, stdin=lines[1] + bad, error="referee: standard input line 2 is not a line of an archive", wrote=b"as it was")
+    for bad in (
+        "line\n",
+        "\n",
+        lines[0].replace("legal", "lawful"),
+        lines[0].replace("16", "x"),
+        lines[0].replace("line%.html", "a\tb\tc\td"),
+        lines[0][:-1],
+        "{}\n",
+        objects.split("\n")[0].replace('"legal"', '"lawful"') + "\n",
+        objects.split("\n")[0][:-1] + "\n",
+    ):
+        run.row(
+            ["index", "-", "out"], 3, stdin=lines[1] + bad, error="referee: standard input line 2 is not a line of an archive", wrote=b"as it was"
+        )
     for page in ("/line%.html", "../line%.html", "a/../../line%.html", "..//a.html"):
         outside = lines[0].replace("line%.html", page)
-        run.row(["index", "-", "out"], 3, stdin=lines[1] + outside, error="referee: standard input line 2 names a page outside the folder of the index", wrote=b"as it was")
+        run.row(
+            ["index", "-", "out"],
+            3,
+            stdin=lines[1] + outside,
+            error="referee: standard input line 2 names a page outside the folder of the index",
+            wrote=b"as it was",
+        )
     run.row(["index", "nowhere", "out"], 4, error="referee: cannot open nowhere: no such file", wrote=b"as it was")
     run.row(["index", "folder", "out"], 4, error="referee: read failed: folder: is a folder", wrote=b"as it was")
     run.row(["index", "lines"], 64, error=None)
@@ -1277,17 +1439,30 @@ def refused_pages(run):
     Path(run.folder, "some/line%.html").mkdir(parents=True)
     Path(run.folder, "some/r1").write_text("")
     names, pages = ["line", "caf\u00e9", "r1/final.gcg"], ["cannot write", "caf\u00e9%.html", "cannot write"]
-    run.row(["archive", "--pages", "some", "word", "word.gad", *names], 4, "".join(f"{name}\t{legal}\t{page}\t0\n" for name, page in zip(names, pages)))
+    run.row(
+        ["archive", "--pages", "some", "word", "word.gad", *names], 4, "".join(f"{name}\t{legal}\t{page}\t0\n" for name, page in zip(names, pages))
+    )
     Path(run.folder, "none/index.html").mkdir(parents=True)
-    run.row(["archive", "--pages", "none", "word", "word.gad", "line"], 4, f"line\t{legal}\tline%.html\t0\n", error="referee: write failed: none: is a folder")
+    run.row(
+        ["archive", "--pages", "none", "word", "word.gad", "line"],
+        4,
+        f"line\t{legal}\tline%.html\t0\n",
+        error="referee: write failed: none: is a folder",
+    )
 
 
 def archived_again(run):
     """`archive --skip`: the games that have no line yet; and `-0`, names that end in NUL."""
     legal, other = "\tlegal\tunfinished\t-\t-\t1\tA\t16\t-\t-\t0\t0", "\tno game\t-\t-\t-\t0\t-\t-\t-\t-\t0\t0"
     names = ["line", "no\xffwhere", "tab\there", "two\nlines", "back\\slash", "nothing"]
-    shown = [("line", legal), ("no\ufffdwhere", "\tunread\t-\t-\tcannot open\t-\t-\t-\t-\t-\t-\t-"), ("tab\\there", legal), ("two\\nlines", legal),
-             ("back\\\\slash", legal), ("nothing", other)]
+    shown = [
+        ("line", legal),
+        ("no\ufffdwhere", "\tunread\t-\t-\tcannot open\t-\t-\t-\t-\t-\t-\t-"),
+        ("tab\\there", legal),
+        ("two\\nlines", legal),
+        ("back\\\\slash", legal),
+        ("nothing", other),
+    ]
     lines, statuses = [f"{name}{text}\n" for name, text in shown], [0, 4, 0, 0, 0, 3]
     Path(run.folder, "names").write_bytes(b"\0".join(name.encode("latin-1") for name in names))
     null = ["--names", "names", "word", "word.gad"]
@@ -1304,7 +1479,11 @@ def archived_again(run):
         run.row(["archive", "--skip", "done", "word", "word.gad", "--", "line", "line"], 0, lines[0] * 2 if done == 0 else "")
         part = lines[done][:-1] if done < len(names) else "x"
         Path(run.folder, "done").write_text("".join(lines[:done]) + part)
-        run.row(["archive", "-0", "--skip", "done", *null], 3, error=f"referee: done ends with part of line {done + 1}: drop that part, and run this again")
+        run.row(
+            ["archive", "-0", "--skip", "done", *null],
+            3,
+            error=f"referee: done ends with part of line {done + 1}: drop that part, and run this again",
+        )
     Path(run.folder, "done").write_text(lines[0] + "line\n")
     run.row(["archive", "--skip", "done", "word", "word.gad", "turn"], 3, error="referee: done line 2 is not a line of an archive")
     run.row(["archive", "--skip", "nowhere", "word", "word.gad", "line"], 4, error="referee: cannot open nowhere: no such file")
@@ -1316,7 +1495,9 @@ def archived_again(run):
 def archived_lines(run):
     """Each line goes out before the next game is read, and the progress is shown every hundred games."""
     Path(run.folder, "names").write_text("line\n" * 250)
-    ran = subprocess.run([run.program, "archive", "--progress", "--names", "names", "word", "word.gad"], cwd=run.folder, capture_output=True, check=False)
+    ran = subprocess.run(
+        [run.program, "archive", "--progress", "--names", "names", "word", "word.gad"], cwd=run.folder, capture_output=True, check=False
+    )
     run.expect("the progress", ran.stderr.decode() == "".join(f"games done: {count}\n" for count in (100, 200, 250)))
     run.expect("a line for each name", ran.stdout.count(b"\n") == 250)
     words = [run.program, "archive", "--names", "-", "word", "word.gad"]
@@ -1337,7 +1518,12 @@ def served(run):
     run.row(["serve", *pair], 0, ready)
     run.row(["serve", *pair], 0, ready + told, stdin=asked)
     run.row(["serve", *pair], 0, ready + told + told, stdin=f"{asked}\r\n{asked}\n")
-    run.row(["serve", *pair], 0, ready + '{"id":"n","status":0,"answer":{"verdict":"ok","line":null,"fault":null,"words":1}}\n', stdin='{"id":"n","do":"check"}')
+    run.row(
+        ["serve", *pair],
+        0,
+        ready + '{"id":"n","status":0,"answer":{"verdict":"ok","line":null,"fault":null,"words":1}}\n',
+        stdin='{"id":"n","do":"check"}',
+    )
     run.row(["serve", "--first-field", "--skip-others", *pair], 0, ready + told, stdin=asked)
     for line, error in [
         ("", "the line is not JSON"),
@@ -1383,13 +1569,20 @@ def served(run):
     run.row(["serve", "digit", "word.gad"], 3, '{"verdict":"bad word list","line":2,"fault":{"name":"BadLetter"}}\n', error="", stdin=asked)
     run.row(["serve", "word", "at.gad"], 3, '{"verdict":"bad lexicon","line":null,"fault":{"name":"Extra","path":"A"}}\n', error="", stdin=asked)
     run.row(["serve", "--rules", "nothing", *pair], 3, '{"verdict":"bad rules","line":null,"fault":{"name":"Missing"}}\n', error="", stdin=asked)
-    run.row(["serve", "nowhere", "at.gad"], 4, '{"verdict":"cannot open","line":null,"fault":null,"file":"nowhere"}\n', error="referee: cannot open nowhere: no such file")
+    run.row(
+        ["serve", "nowhere", "at.gad"],
+        4,
+        '{"verdict":"cannot open","line":null,"fault":null,"file":"nowhere"}\n',
+        error="referee: cannot open nowhere: no such file",
+    )
     for words in ([], ["word"], ["-", "word.gad"], ["word", "word.gad", "line"], ["--json", *pair]):
         run.row(["serve", *words], 64, error=None, stdin="WORD\n")
     if os.path.exists("/dev/full"):
         run.row(["serve", *pair], 4, error="referee: write failed: standard output: no space left, error 28 of the system", stdout="/dev/full")
     long = '{"id":1,"do":"tidy","game":"' + "x" * (5 << 20) + '"}'
-    run.row(["serve", *pair], 0, f'{ready}{{"id":null,"status":64,"error":"the line has more than 4194304 bytes"}}\n{told}', stdin=f"{long}\n{asked}\n")
+    run.row(
+        ["serve", *pair], 0, f'{ready}{{"id":null,"status":64,"error":"the line has more than 4194304 bytes"}}\n{told}', stdin=f"{long}\n{asked}\n"
+    )
     pipes = {"stdin": subprocess.PIPE, "stdout": subprocess.PIPE, "bufsize": 0}
     with subprocess.Popen([run.program, "serve", *pair], cwd=run.folder, **pipes) as process:
         run.expect("it is ready before a line", process.stdout.readline().decode() == ready)
@@ -1401,7 +1594,17 @@ def served(run):
 
 
 ANY = object()
-NO_REPAIRS = {"numbers_alone": None, "repairs": [], "pairs": [], "chain": None, "left": None, "tried": None, "untried": None, "numbers_alone_settled": None, "sheet_slips": []}
+NO_REPAIRS = {
+    "numbers_alone": None,
+    "repairs": [],
+    "pairs": [],
+    "chain": None,
+    "left": None,
+    "tried": None,
+    "untried": None,
+    "numbers_alone_settled": None,
+    "sheet_slips": [],
+}
 NO_GAME_HEAD = {"verdict": "no game", "line": None, "fault": None, "unread_lines": []}
 THIRD = {"verdict": "bad record", "line": 3, "fault": {"name": "ThirdPlayer"}}
 
@@ -1493,15 +1696,35 @@ def audited(run):
         ("line", 0, f"legal unfinished\n{lead}", line),
         ("line-18", 1, f"line 1: score 18, should be 16 (A, 8E WORD)\ntotal of A: 18, should be 16\nlegal unfinished\n{by_sheet % 18}", line),
         ("line-17", 1, f"line 1: sum 17, should be 16 (A, 8E WORD)\nlegal unfinished\n{by_sheet % 17}", line),
-        ("score-and-sum", 1, f"line 1: score 18, should be 16 (A, 8E WORD)\nline 1: sum 19, should be 16 (A, 8E WORD)\nlegal unfinished\n{by_sheet % 19}", line),
+        (
+            "score-and-sum",
+            1,
+            f"line 1: score 18, should be 16 (A, 8E WORD)\nline 1: sum 19, should be 16 (A, 8E WORD)\nlegal unfinished\n{by_sheet % 19}",
+            line,
+        ),
         ("score-alone", 1, f"line 1: score 18, should be 16 (A, 8E WORD)\nlegal unfinished\n{lead}", passed),
         ("total-alone", 1, f"line 1: sum 17, should be 16 (A, 8E WORD)\nlegal unfinished\n{lead}", passed),
         ("total-carried", 1, f"line 1: sum 17, should be 16 (A, 8E WORD)\ntotal of A: 17, should be 16\nlegal unfinished\n{by_sheet % 17}", passed),
-        ("two-totals", 1, f"line 1: sum 17, should be 16 (A, 8E WORD)\nline 3: sum 18, should be 16 (A, -)\nlegal unfinished\n{by_sheet % 18}", passed),
+        (
+            "two-totals",
+            1,
+            f"line 1: sum 17, should be 16 (A, 8E WORD)\nline 3: sum 18, should be 16 (A, -)\nlegal unfinished\n{by_sheet % 18}",
+            passed,
+        ),
         ("one-player", 0, "legal unfinished\nthe other player is ahead by 5\n", TEXTS["one-player"].encode()),
-        ("bonus-of-10", 1, "line 2: sum 21, should be 26 (A, (challenge))\nOr: line 2: a bonus for a challenge, 5, not 10\n  8 of 8 numbers right\nillegal line 2: BadBonus\n", None),
+        (
+            "bonus-of-10",
+            1,
+            "line 2: sum 21, should be 26 (A, (challenge))\nOr: line 2: a bonus for a challenge, 5, not 10\n  8 of 8 numbers right\nillegal line 2: BadBonus\n",
+            None,
+        ),
         ("untidy", 0, f"legal unfinished\n{lead}", TEXTS["untidy"].encode()),
-        ("by-hand", 1, "line 5: score 10, should be 9 (B, 9G AT)\ntotal of B: 10, should be 9\nlegal unfinished\nA is ahead by 7; by the sheet A is ahead by 6\n", f"{BY_HAND}>B: AT 9G AT +9 9{OTHERS}".encode()),
+        (
+            "by-hand",
+            1,
+            "line 5: score 10, should be 9 (B, 9G AT)\ntotal of B: 10, should be 9\nlegal unfinished\nA is ahead by 7; by the sheet A is ahead by 6\n",
+            f"{BY_HAND}>B: AT 9G AT +9 9{OTHERS}".encode(),
+        ),
         ("nothing", 3, "no game\n", None),
         ("page", 3, "no game\n", None),
         ("line-8d", 1, "illegal line 1: MissesCentre\n", None),
@@ -1513,7 +1736,10 @@ def audited(run):
         Path(run.folder, "out").write_bytes(b"as it was")
         run.row(["audit", "--corrected", "out", "word", "word.gad", game], status, out, wrote=b"as it was" if kept is None else kept)
         run.row(["audit", "word", "word.gad", game], status, out)
-    missing = "line 3: sum 21, should be 16 (A, -)\nOr: before line 2: A gets 5 points for a failed challenge\n  8 of 8 numbers right\nlegal unfinished\n" + by_sheet % 21
+    missing = (
+        "line 3: sum 21, should be 16 (A, -)\nOr: before line 2: A gets 5 points for a failed challenge\n  8 of 8 numbers right\nlegal unfinished\n"
+        + by_sheet % 21
+    )
     run.row(["audit", "word", "word.gad", "bonus-missing"], 1, missing)
     Path(run.folder, "out").write_bytes(b"as it was")
     held = "not written: either the bonus or penalty after Or: is missing, or the number is wrong\n"
@@ -1534,8 +1760,17 @@ def audited(run):
     run.row(["audit", "--corrected", "no/where", "word", "word.gad", "line"], 4, error="referee: cannot open no/where: no such file")
     run.row(["audit", "word", "word.gad"], 64, error=None)
     if os.path.exists("/dev/full"):
-        run.row(["audit", "word", "word.gad", "line"], 4, error="referee: write failed: standard output: no space left, error 28 of the system", stdout="/dev/full")
-        run.row(["audit", "--corrected", "/dev/full", "word", "word.gad", "line"], 4, error="referee: write failed: /dev/full: no space left, error 28 of the system")
+        run.row(
+            ["audit", "word", "word.gad", "line"],
+            4,
+            error="referee: write failed: standard output: no space left, error 28 of the system",
+            stdout="/dev/full",
+        )
+        run.row(
+            ["audit", "--corrected", "/dev/full", "word", "word.gad", "line"],
+            4,
+            error="referee: write failed: /dev/full: no space left, error 28 of the system",
+        )
 
 
 # What the lines of a draft may lack, or have too many, in the words of the report.
@@ -1561,8 +1796,18 @@ def filled(run):
         (f"{bare} +16\n", 0, f"put in: 0 scores, 1 total\n{lead}", WORD),
         (f"{bare} +18\n", 1, f"put in: 0 scores, 1 total\n{wrong}{lead}", WORD),
         (WORD, 0, f"put in: 0 scores, 0 totals\n{lead}", WORD),
-        (TEXTS["line-18"], 1, f"put in: 0 scores, 0 totals\n{wrong}total of A: 18, should be 16\nlegal unfinished\nA is ahead by 16; by the sheet A is ahead by 18\n", WORD),
-        (f"{bare}\n>B: -\n>A: - +0 18\n", 1, "put in: 2 scores, 2 totals\nline 3: sum 18, should be 16 (A, -)\nlegal unfinished\nA is ahead by 16; by the sheet A is ahead by 18\n", WORD + GOING_ON),
+        (
+            TEXTS["line-18"],
+            1,
+            f"put in: 0 scores, 0 totals\n{wrong}total of A: 18, should be 16\nlegal unfinished\nA is ahead by 16; by the sheet A is ahead by 18\n",
+            WORD,
+        ),
+        (
+            f"{bare}\n>B: -\n>A: - +0 18\n",
+            1,
+            "put in: 2 scores, 2 totals\nline 3: sum 18, should be 16 (A, -)\nlegal unfinished\nA is ahead by 16; by the sheet A is ahead by 18\n",
+            WORD + GOING_ON,
+        ),
         (f"{bare}\n>B: -\n>A: -\n", 0, f"put in: 3 scores, 3 totals\n{lead}", WORD + GOING_ON),
         (left_out, 1, "put in: 2 scores, 3 totals\nline 5: score 10, should be 9 (B, 9G AT)\nlegal unfinished\nA is ahead by 7\n", wanted),
         (TEXTS["untidy"], 0, f"put in: 0 scores, 0 totals\n{lead}", TEXTS["untidy"]),
@@ -1570,8 +1815,13 @@ def filled(run):
         (f"{bare} +18\n>A: -\n", 1, f"put in: 0 scores, 1 total\n{wrong}illegal line 2: NotYourTurn\n", None),
         (bare.replace("8E", "8D"), 1, "put in: 0 scores, 0 totals\nillegal line 1: MissesCentre\n", None),
         (">A: ??  -\n>B: ? -\n", 1, "put in: 2 scores, 2 totals\nillegal line 2: TilesShort ?\n", None),
-        (f"{bare}\n>B: -\n>A: - +0 21\n>B: -\n", 1, "put in: 3 scores, 3 totals\nline 3: sum 21, should be 16 (A, -)\nOr: before line 2: A gets 5 points for a failed challenge\n  8 of 8 numbers right\nlegal unfinished\n"
-         f"A is ahead by 16; by the sheet A is ahead by 21\n{HELD}", None),
+        (
+            f"{bare}\n>B: -\n>A: - +0 21\n>B: -\n",
+            1,
+            "put in: 3 scores, 3 totals\nline 3: sum 21, should be 16 (A, -)\nOr: before line 2: A gets 5 points for a failed challenge\n  8 of 8 numbers right\nlegal unfinished\n"
+            f"A is ahead by 16; by the sheet A is ahead by 21\n{HELD}",
+            None,
+        ),
         *[(text, 3, f"bad record line 1: Fields\n{why}\n", None) for text, why in AMISS.items()],
         (">A: -\n>B: 8E\n", 3, "bad record line 2: Fields\nAfter the position comes no word.\n", None),
         (">A: -\n>B: - +0\n>C: -\n", 3, "bad record line 3: ThirdPlayer\n", None),
@@ -1596,12 +1846,25 @@ def filled(run):
         run.row(["fill", *words, "out"], status, out, wrote=b"as it was")
     run.row(["fill", "word", "word.gad", "nowhere"], 4, error="referee: cannot open nowhere: no such file")
     run.row(["fill", *files, "no/where"], 4, error="referee: cannot open no/where: no such file")
-    for words in (["word", "word.gad"], [*files, "out", "out"], ["--next", *files, "out"], ["--draft", *files], ["-", "word.gad", "-"], [*files, "draft"], [*files, "word"]):
+    for words in (
+        ["word", "word.gad"],
+        [*files, "out", "out"],
+        ["--next", *files, "out"],
+        ["--draft", *files],
+        ["-", "word.gad", "-"],
+        [*files, "draft"],
+        [*files, "word"],
+    ):
         run.row(["fill", *words], 64, error=None)
     run.expect("a draft that is OUT stays as it was", Path(run.folder, "draft").read_text() == bare)
     whole = Path(__file__).resolve().parents[2] / "examples"
     pair = [str(whole / "words.txt"), str(whole / "words.gad")]
-    run.row(["fill", *pair, str(whole / "draft.gcg"), "out"], 0, "put in: 43 scores, 45 totals\nlegal complete\nBob won by 34\n", wrote=(whole / "game.gcg").read_bytes())
+    run.row(
+        ["fill", *pair, str(whole / "draft.gcg"), "out"],
+        0,
+        "put in: 43 scores, 45 totals\nlegal complete\nBob won by 34\n",
+        wrote=(whole / "game.gcg").read_bytes(),
+    )
     filled_in_json(run, bare, files)
     next_lines(run, bare, files)
 
@@ -1612,8 +1875,18 @@ def filled_in_json(run, bare, files):
 
     def told(draft, status, out="", **more):
         Path(run.folder, "draft").write_text(draft)
-        answer = {"verdict": "legal", "line": None, "fault": None, "ending": "unfinished", "players": players, "wrong": [], "ahead": {"player": 1, "by": 16},
-                  "ahead_by_sheet": {"player": 1, "by": 16}, "amount": None, "unread_lines": []} | more
+        answer = {
+            "verdict": "legal",
+            "line": None,
+            "fault": None,
+            "ending": "unfinished",
+            "players": players,
+            "wrong": [],
+            "ahead": {"player": 1, "by": 16},
+            "ahead_by_sheet": {"player": 1, "by": 16},
+            "amount": None,
+            "unread_lines": [],
+        } | more
         text = json.dumps(answer, separators=(",", ":")) + "\n"
         run.row(["fill", "--json", *files], status, text)
         Path(run.folder, "out").write_bytes(b"as it was")
@@ -1631,7 +1904,12 @@ def filled_in_json(run, bare, files):
             run.row(["fill", "--json", *more, *files], 3, refusal("bad record", 1, {"name": "Fields"}, amiss=name))
     Path(run.folder, "draft").write_text(TEXTS["third"])
     run.row(["fill", "--json", *files], 3, refusal("bad record", 3, {"name": "ThirdPlayer"}, amiss=None))
-    run.row(["fill", "--json", "word", "word.gad", "nowhere"], 4, refusal("cannot open", file="nowhere"), error="referee: cannot open nowhere: no such file")
+    run.row(
+        ["fill", "--json", "word", "word.gad", "nowhere"],
+        4,
+        refusal("cannot open", file="nowhere"),
+        error="referee: cannot open nowhere: no such file",
+    )
 
 
 def next_lines(run, bare, files):
@@ -1644,10 +1922,25 @@ def next_lines(run, bare, files):
         (bare, 0, f"next: player 2\n{first}", state),
         (f"{bare} +18\n", 0, f"next: player 2\n{first}", state),
         (f"{bare}\n>B: -\n", 0, "next: A\n" + first.replace("player 2", "B"), state | {"turn": 1, "players": [sides[0], sides[1] | {"nick": "B"}]}),
-        (f"#player2 B Bo Bell\n{bare}\n", 0, f"next: B\n" + first.replace("player 2", "B"), state | {"players": [sides[0], sides[1] | {"nick": "B", "name": "Bo Bell"}]}),
+        (
+            f"#player2 B Bo Bell\n{bare}\n",
+            0,
+            f"next: B\n" + first.replace("player 2", "B"),
+            state | {"players": [sides[0], sides[1] | {"nick": "B", "name": "Bo Bell"}]},
+        ),
         ("", 0, f"next: either player\n{start}", state | {"turn": None, "players": [it | {"nick": None, "total": 0} for it in sides], "bag": 86}),
-        (f"{bare}\n>A: -\n", 1, f"illegal line 2: NotYourTurn\nnext: player 2\n{first}", state | {"verdict": "illegal", "line": 2, "fault": {"name": "NotYourTurn"}}),
-        (PASSES.replace(" +0 0", "") + ">A: AEINRST (AEINRST)\n>B: AEINRST (AEINRST)\n", 0, "the game is complete\nA: total -7, 7 tiles\nB: total -7, 7 tiles\nbag: 86 tiles\n", None),
+        (
+            f"{bare}\n>A: -\n",
+            1,
+            f"illegal line 2: NotYourTurn\nnext: player 2\n{first}",
+            state | {"verdict": "illegal", "line": 2, "fault": {"name": "NotYourTurn"}},
+        ),
+        (
+            PASSES.replace(" +0 0", "") + ">A: AEINRST (AEINRST)\n>B: AEINRST (AEINRST)\n",
+            0,
+            "the game is complete\nA: total -7, 7 tiles\nB: total -7, 7 tiles\nbag: 86 tiles\n",
+            None,
+        ),
     ]:
         Path(run.folder, "draft").write_text(draft)
         run.row(["fill", "--next", *files], status, out, error="")
@@ -1740,7 +2033,9 @@ def repairs_listed(run):
     none = "illegal line 1: MissesCentre\nnone of 611 single changes makes it a game\n"
     pair = "with two changes:\nline 1: WORD at 8E, not at E8; and line 2: AT at 9G, not at 9H\n  6 of 6 numbers right\n"
     run.row(["repair", "--number", "1", "all", "all.gad", "three"], 1, none + pair)
-    run.row(["repair", "--number", "1", "--repaired", "out", "all", "all.gad", "three"], 1, none + pair + "not written: no single change repairs it\n")
+    run.row(
+        ["repair", "--number", "1", "--repaired", "out", "all", "all.gad", "three"], 1, none + pair + "not written: no single change repairs it\n"
+    )
     found = "illegal line 1: MissesCentre\nline 1: WORD at 8F, not at E8\n  4 of 4 numbers right\n"
     pair = "with two changes:\nline 1: WORD at 8E, not at E8; and line 2: AT at 9G, not at 9H\n  4 of 4 numbers right\n"
     likelier = "not written: two changes are likelier than the first repair\n"
@@ -1748,7 +2043,14 @@ def repairs_listed(run):
     run.row([*told, "nowhere"], 4, error="referee: cannot open nowhere: no such file")
     run.row(["repair", "word", "folder", "line"], 4, error="referee: read failed: folder: is a folder")
     run.row(["repair", "--repaired", "no/where", *twice], 4, error="referee: cannot open no/where: no such file")
-    for words in ([], ["line", "line"], ["--number", "0", "line"], ["--number", "101", "line"], ["--number", "x", "line"], ["--json", "--repaired", "out", "line"]):
+    for words in (
+        [],
+        ["line", "line"],
+        ["--number", "0", "line"],
+        ["--number", "101", "line"],
+        ["--number", "x", "line"],
+        ["--json", "--repaired", "out", "line"],
+    ):
         run.row([*told, *words], 64, error=None)
 
 
@@ -1761,15 +2063,41 @@ def through_sheet(run, at, eat):
         (word + at[1:] + eat, "line 3: NotYourTurn", "line 2: > is missing", 6, right),
         (word + at.replace(">", " >") + eat, "line 3: NotYourTurn", "line 2: a blank is before its >", 6, right),
         (word + at.replace(">", "=") + eat, "line 3: NotYourTurn", "line 2: another sign is in place of its >", 6, right),
-        (word.replace("8E", "E8") + at.replace("9G", "G9") + eat.replace("9F", "F9"), "line 1: MissesCentre", "all places have row and column interchanged", 6, right),
-        (word.replace("8E", "9E") + at.replace("9G", "10G") + eat.replace("9F", "10F"), "line 1: MissesCentre", "all places are one row too far down", 6, right),
-        (word.replace("WORD", "word") + at.replace("AT +", "at +") + eat.replace("E..", "e.."), "line 1: WrongScore 0", "all words have small letters and capitals interchanged", 6, right),
-        (word + at + ">B: E 9F E.. +5 21\n>A: - +0 9\n>B: - +0 21\n", "line 3: NotYourTurn", "all lines from line 3 on have the name of the other player", 10, passes),
+        (
+            word.replace("8E", "E8") + at.replace("9G", "G9") + eat.replace("9F", "F9"),
+            "line 1: MissesCentre",
+            "all places have row and column interchanged",
+            6,
+            right,
+        ),
+        (
+            word.replace("8E", "9E") + at.replace("9G", "10G") + eat.replace("9F", "10F"),
+            "line 1: MissesCentre",
+            "all places are one row too far down",
+            6,
+            right,
+        ),
+        (
+            word.replace("WORD", "word") + at.replace("AT +", "at +") + eat.replace("E..", "e.."),
+            "line 1: WrongScore 0",
+            "all words have small letters and capitals interchanged",
+            6,
+            right,
+        ),
+        (
+            word + at + ">B: E 9F E.. +5 21\n>A: - +0 9\n>B: - +0 21\n",
+            "line 3: NotYourTurn",
+            "all lines from line 3 on have the name of the other player",
+            10,
+            passes,
+        ),
     ]
     for sheet, verdict, slip, numbers, there in rows:
         Path(run.folder, "slipped").write_text(sheet)
         Path(run.folder, "out").unlink(missing_ok=True)
-        done = subprocess.run([run.program, "repair", "--repaired", "out", "all", "all.gad", "slipped"], cwd=run.folder, capture_output=True, check=False)
+        done = subprocess.run(
+            [run.program, "repair", "--repaired", "out", "all", "all.gad", "slipped"], cwd=run.folder, capture_output=True, check=False
+        )
         told = done.stdout.decode()
         begins = f"illegal {verdict}\n{slip}\n  {numbers} of {numbers} numbers right\n"
         ends = "written: the sheet with the first repair\n"
@@ -1778,11 +2106,15 @@ def through_sheet(run, at, eat):
         run.expect(f"the sheet without the slip of {sheet}written {written}", written == there)
         said = subprocess.run([run.program, "explain", "all", "all.gad", "slipped"], cwd=run.folder, capture_output=True, check=False).stdout.decode()
         run.expect(f"the likely slip of {sheet}said {said}", f"\nLikely: {slip}\n  {numbers} of {numbers} numbers right\n" in said)
-        found = json.loads(subprocess.run([run.program, "repair", "--json", "all", "all.gad", "slipped"], cwd=run.folder, capture_output=True, check=False).stdout)
+        found = json.loads(
+            subprocess.run([run.program, "repair", "--json", "all", "all.gad", "slipped"], cwd=run.folder, capture_output=True, check=False).stdout
+        )
         first = found["sheet_slips"][0]
         lines = "".join(line.replace(">: ", ">B: ") + "\n" for line in first["lines"])
         run.expect(f"the object of the slip of {sheet}has {first}", first["settled"] and lines in there)
-        told = subprocess.run([run.program, "archive", "--repairs", "--json", "all", "all.gad", "slipped"], cwd=run.folder, capture_output=True, check=False).stdout
+        told = subprocess.run(
+            [run.program, "archive", "--repairs", "--json", "all", "all.gad", "slipped"], cwd=run.folder, capture_output=True, check=False
+        ).stdout
         wanted = {"change": slip, "numbers_right": f"{numbers} of {numbers}"}
         run.expect(f"the slip of {sheet}in an archive: {told}", json.loads(told)["likely"] == wanted)
     Path(run.folder, "slipped").write_text(word + at.replace("+9 9", "+9 16") + eat + ">B: - +0 16\n")
@@ -1800,8 +2132,24 @@ def misread_twice(run, at, eat):
     Path(run.folder, "za").write_text("ZA\n")
     run.row(["build", "za", "za.gad"], 0)
     rows = [  # the list, the sheet, what is told, what it ends with, the sheet that is written, the name of the slip and the line that is put there
-        ("all", f">A: AADEXRW 8E WXRD +16 16\n{at}{eat}", played, "written: the sheet with the first repair\n", f">A: AADEORW 8E WORD +16 16\n{at}{eat}", "in word", ">A: AADEORW 8E WORD +16 16"),
-        ("za", ">A: AEINRSZ 8G ZA +22 22\n>B: AABCDDZ -AZ +0 0\n>A: - +0 22\n", exchanged, "not written: the second repair is nearly as likely as the first\n", "as it was", "exchanged", ">B: AAABCDD -AA +0 0"),
+        (
+            "all",
+            f">A: AADEXRW 8E WXRD +16 16\n{at}{eat}",
+            played,
+            "written: the sheet with the first repair\n",
+            f">A: AADEORW 8E WORD +16 16\n{at}{eat}",
+            "in word",
+            ">A: AADEORW 8E WORD +16 16",
+        ),
+        (
+            "za",
+            ">A: AEINRSZ 8G ZA +22 22\n>B: AABCDDZ -AZ +0 0\n>A: - +0 22\n",
+            exchanged,
+            "not written: the second repair is nearly as likely as the first\n",
+            "as it was",
+            "exchanged",
+            ">B: AAABCDD -AA +0 0",
+        ),
     ]
     for words, sheet, told, ends, written, name, line in rows:
         Path(run.folder, "misread-twice").write_text(sheet)
@@ -1819,7 +2167,13 @@ def bad_lines(run, at, eat):
     rows = [  # the text, its verdict, the first repair, the place that it gives, and the sheet with it
         (word.replace("8E ", "") + at + eat, "line 1: Code", "line 1: the place is missing: 8E", "8E", word + at + eat),
         (">A: WORD +16 16\n" + at + eat, "line 1: Code", "line 1: the place is missing: 8E", "8E", ">A: 8E WORD +16 16\n" + at + eat),
-        (word + at + eat.replace("9F ", "").replace("\n", " \r\n"), "line 3: Code", "line 3: the place is missing: 9F", "9F", word + at + eat.replace("\n", " \r\n")),
+        (
+            word + at + eat.replace("9F ", "").replace("\n", " \r\n"),
+            "line 3: Code",
+            "line 3: the place is missing: 9F",
+            "9F",
+            word + at + eat.replace("\n", " \r\n"),
+        ),
         (word + "> B thinks\n" + at + eat, "line 2: NoColon", "line 2: > should not be there", None, word + " B thinks\n" + at + eat),
         (names + word + ">" + at + eat, "line 4: ThirdPlayer", "line 4: > should not be there", None, names + word + at + eat),
     ]
@@ -1852,11 +2206,20 @@ def bad_lines(run, at, eat):
     blanks = ">A: AADEO?W 8E WORD +14 14\n>B: A? 9G AT +6 6\n>A: E 9F E.. +4 18\n"
     Path(run.folder, "bad").write_text(blanks)
     told = subprocess.run([run.program, "repair", "all", "all.gad", "bad"], cwd=run.folder, capture_output=True, check=False).stdout.decode()
-    run.expect(f"blanks as capitals: {told}", told.startswith("illegal line 1: WrongScore 16\nall blanks are written as capitals\n  6 of 6 numbers right\n"))
-    kept = subprocess.run([run.program, "repair", "--repaired", "out", "all", "all.gad", "bad"], cwd=run.folder, capture_output=True, check=False).stdout.decode()
-    unsure = kept.endswith("not written: of two equal letters in a word either may be the blank\n") and Path(run.folder, "out").read_bytes() == b"as it was"
+    run.expect(
+        f"blanks as capitals: {told}", told.startswith("illegal line 1: WrongScore 16\nall blanks are written as capitals\n  6 of 6 numbers right\n")
+    )
+    kept = subprocess.run(
+        [run.program, "repair", "--repaired", "out", "all", "all.gad", "bad"], cwd=run.folder, capture_output=True, check=False
+    ).stdout.decode()
+    unsure = (
+        kept.endswith("not written: of two equal letters in a word either may be the blank\n")
+        and Path(run.folder, "out").read_bytes() == b"as it was"
+    )
     run.expect(f"no sheet is written where either letter may be the blank: {kept}", unsure)
-    found = json.loads(subprocess.run([run.program, "repair", "--json", "all", "all.gad", "bad"], cwd=run.folder, capture_output=True, check=False).stdout)
+    found = json.loads(
+        subprocess.run([run.program, "repair", "--json", "all", "all.gad", "bad"], cwd=run.folder, capture_output=True, check=False).stdout
+    )
     one = found["sheet_slips"][0]
     wanted = ("blanks as capitals", [1, 2], [">A: AADEOW? 8E WOrD +14 14", ">B: A? 9G At +6 6"], 2)
     run.expect(f"the object of blanks as capitals: {one}", (one["slip"], one["replaces"], one["lines"], one["cost"]) == wanted)
@@ -1873,12 +2236,19 @@ def left_open(run):
     for (record, wanted), verdict, (helps, many) in zip(OPEN, verdicts, left):
         Path(run.folder, "left-open").write_text(record)
         begins = f"illegal line {verdict}\n{wanted}"
-        ran = subprocess.run([run.program, "repair", "--repaired", "out", "jx", "jx.gad", "left-open"], cwd=run.folder, capture_output=True, check=False)
+        ran = subprocess.run(
+            [run.program, "repair", "--repaired", "out", "jx", "jx.gad", "left-open"], cwd=run.folder, capture_output=True, check=False
+        )
         told = ran.stdout.decode()
         run.expect(f"what is left open of {record}told {told}", ran.returncode == 1 and told.startswith(begins) and (not many or told.endswith(ends)))
-        said = json.loads(subprocess.run([run.program, "repair", "--json", "jx", "jx.gad", "left-open"], cwd=run.folder, capture_output=True, check=False).stdout)
+        said = json.loads(
+            subprocess.run([run.program, "repair", "--json", "jx", "jx.gad", "left-open"], cwd=run.folder, capture_output=True, check=False).stdout
+        )
         settled = [said["left"], said["numbers_alone_settled"], [it["settled"] for it in said["sheet_slips"]]]
-        run.expect(f"the object of what is left open of {record}has {settled}", settled == [many, False if helps == "leaves" else None, [] if helps else [False] * 2])
+        run.expect(
+            f"the object of what is left open of {record}has {settled}",
+            settled == [many, False if helps == "leaves" else None, [] if helps else [False] * 2],
+        )
     Path(run.folder, "left-open").write_text("> a note\n" + NOT_DEALT)
     mark = "bad record line 1: NoColon\nline 1: > should not be there (no deal was found)\n  16 of 16 numbers right\n"
     ends = "not written: it is not a record, and it is not known whether it is a game with the first repair\n"
@@ -1887,7 +2257,9 @@ def left_open(run):
     place = "bad record line 3: Code\nline 3: the place is missing: 8G (or 8H, H7, H8) (no deal was found)\n  16 of 16 numbers right\n"
     run.row(["repair", "jx", "jx.gad", "left-open"], 3, place, error=None)
     Path(run.folder, "left-open").write_text(SHORT_OF)
-    told = subprocess.run([run.program, "repair", "--draft", "jx", "jx.gad", "left-open"], cwd=run.folder, capture_output=True, check=False).stdout.decode()
+    told = subprocess.run(
+        [run.program, "repair", "--draft", "jx", "jx.gad", "left-open"], cwd=run.folder, capture_output=True, check=False
+    ).stdout.decode()
     run.expect(f"a draft of what is left open: {told}", told == f"illegal line 3: WrongScore 32\n{OPEN[0][1]}")
 
 
@@ -1902,22 +2274,54 @@ def choices_left_open(run):
     for first, second, status, out, why in [
         (two, NOT_DEALT, 1, f"line 1 | line 1: -2 +0 0 | -1 +0 0: the first; with the second no deal was found\n{open_one}{ahead}", other),
         (NOT_DEALT, two, 1, f"line 1 | line 1: -1 +0 0 | -2 +0 0: the second; with the first no deal was found\n{open_one}{ahead}", other),
-        (e, NOT_DEALT, 1, f"line 8 | line 8: rack E | rack Z: the first; with the second, the sheet of B, no deal was found\n{open_one}{ahead}", other),
-        (NOT_DEALT, shown, 1, f"line 1 | line 1: rack QZ | rack EQ: the second; with the first, the sheet of A, no deal was found\n{open_one}{ahead}", other),
+        (
+            e,
+            NOT_DEALT,
+            1,
+            f"line 8 | line 8: rack E | rack Z: the first; with the second, the sheet of B, no deal was found\n{open_one}{ahead}",
+            other,
+        ),
+        (
+            NOT_DEALT,
+            shown,
+            1,
+            f"line 1 | line 1: rack QZ | rack EQ: the second; with the first, the sheet of A, no deal was found\n{open_one}{ahead}",
+            other,
+        ),
         (NOT_DEALT, NOT_DEALT, 2, f"{open_one}none of 1 choice of the lines is known to be a game\n", none),
-        (NOT_DEALT, six, 2, f"line 6 | line 6: -7 +0 0 | -6 +0 0\n{open_one.replace('1 choice', '2 choices')}none of 2 choices of the lines is known to be a game\n", none),
+        (
+            NOT_DEALT,
+            six,
+            2,
+            f"line 6 | line 6: -7 +0 0 | -6 +0 0\n{open_one.replace('1 choice', '2 choices')}none of 2 choices of the lines is known to be a game\n",
+            none,
+        ),
         # Of the lines that may be one too many, line 8 is one without which a deal is found.
-        (turn, turn, 1, "none of 1 choice of the lines is known to be a game\nthe record of both sheets goes furthest: line 9 | line 9 is refused: NotYourTurn\n"
-         f"the record of both sheets is a game with one more change: line 8: it should not be there\n{ahead}", "not written: it is not known whether another change makes a game\n"),
+        (
+            turn,
+            turn,
+            1,
+            "none of 1 choice of the lines is known to be a game\nthe record of both sheets goes furthest: line 9 | line 9 is refused: NotYourTurn\n"
+            f"the record of both sheets is a game with one more change: line 8: it should not be there\n{ahead}",
+            "not written: it is not known whether another change makes a game\n",
+        ),
         # If B draws the Z in place of the Q itself, it is known that there is no deal.
-        (cut.replace("-1 ", "-2 "), cut, 1, "line 1 | line 1: -2 +0 0 | -1 +0 0: the first; with the second no deal yields the racks\n"
-         "legal unfinished\nboth have the same total\n", "written: the merged record\n"),
+        (
+            cut.replace("-1 ", "-2 "),
+            cut,
+            1,
+            "line 1 | line 1: -2 +0 0 | -1 +0 0: the first; with the second no deal yields the racks\n"
+            "legal unfinished\nboth have the same total\n",
+            "written: the merged record\n",
+        ),
     ]:
         Path(run.folder, "one").write_text(first)
         Path(run.folder, "two").write_text(second)
         run.row([*kept, "one", "two"], status, out + why)
         text = subprocess.run([run.program, *kept, "one", "two"], cwd=run.folder, capture_output=True, check=False).stdout.decode()
-        told = json.loads(subprocess.run([run.program, "compare", "--json", "jx", "jx.gad", "one", "two"], cwd=run.folder, capture_output=True, check=False).stdout)
+        told = json.loads(
+            subprocess.run([run.program, "compare", "--json", "jx", "jx.gad", "one", "two"], cwd=run.folder, capture_output=True, check=False).stdout
+        )
         run.expect(f"the object of what {text} says: {told}", is_text_of(text, told, True))
 
 
@@ -1935,7 +2339,9 @@ def long_sheet(run, at):
         text = sheet + "x" * (1_048_576 - spare - len(sheet) - 1) + "\n"
         Path(run.folder, "long").write_text(text)
         Path(run.folder, "out").write_text("as it was")
-        done = subprocess.run([run.program, "repair", "--repaired", "out", "all", "all.gad", "long"], cwd=run.folder, capture_output=True, check=False)
+        done = subprocess.run(
+            [run.program, "repair", "--repaired", "out", "all", "all.gad", "long"], cwd=run.folder, capture_output=True, check=False
+        )
         told = done.stdout.decode()
         run.expect(f"a sheet of 1 MiB without {spare} bytes told {told}", done.returncode == 1 and told.endswith(ends))
         kept = text.replace("+16 1\n", "+16 16\n") if spare else "as it was"
@@ -1971,14 +2377,23 @@ def compared(run):
     both = "line 1 | line 1: 8E WORD +16 16 | 8F WORD +16 16: both stand\n1 other choice of the lines would stand as well\n" + ahead
     run.row([*told, "line", "others"], 1, both)
     Path(run.folder, "out").write_bytes(b"as it was")
-    run.row([*told, "--merged", "out", "line", "others"], 1, both + "not written: another choice of the lines would stand as well\n", wrote=b"as it was")
+    run.row(
+        [*told, "--merged", "out", "line", "others"], 1, both + "not written: another choice of the lines would stand as well\n", wrote=b"as it was"
+    )
     for name, place in (("left", "8C"), ("above", "7E"), ("aside", "7F")):
         Path(run.folder, name).write_text(WORD.replace("8E", place))
     refused = "{0}\nnone of 2 choices of the lines is known to be a game\nfirst goes furthest: line 1 | line 1 is refused: MissesCentre\n"
-    mended = refused.format("line 1 | line 1: 8D WORD +16 16 | 8C WORD +16 16") + "first is a game with one more change: line 1: WORD at 8E, not at 8D\n" + ahead
+    mended = (
+        refused.format("line 1 | line 1: 8D WORD +16 16 | 8C WORD +16 16")
+        + "first is a game with one more change: line 1: WORD at 8E, not at 8D\n"
+        + ahead
+    )
     run.row([*told, "--merged", "out", "other", "left"], 1, mended + done, wrote=merged.encode())
     rival = "another change would make a game as well\n"
-    either = refused.format("line 1 | line 1: 7E WORD +16 16 | 7F WORD +16 16") + f"first is a game with one more change: line 1: WORD at 8E, not at 7E\n{rival}{ahead}"
+    either = (
+        refused.format("line 1 | line 1: 7E WORD +16 16 | 7F WORD +16 16")
+        + f"first is a game with one more change: line 1: WORD at 8E, not at 7E\n{rival}{ahead}"
+    )
     Path(run.folder, "out").write_bytes(b"as it was")
     run.row([*told, "--merged", "out", "above", "aside"], 1, f"{either}not written: {rival}", wrote=b"as it was")
     for sheets, names, words in [  # where the line that is changed has another number on the other sheet, it is said which sheet it is of
@@ -1997,15 +2412,28 @@ def compared(run):
     run.row(["build", "word-at-ra", "word-at-ra.gad"], 0)
     for sheet, refused, words, end in [  # a sheet and itself: what is refused, the words of the change, and what comes of it
         (WORD + at + at, 3, "line 3: it repeats the line before it and should not be there", "A is ahead by 7\n"),
-        (WORD + ">A: AT 9G AT +9 25\n", 2, f"before line 2: the other player passes\n{rival.rstrip()}", "total of : none | none: the rules give 0\nA is ahead by 25\n"),
-        ("#player2 B\n" + WORD + ">A: AT 9G AT +9 9\n>A: - +0 16\n", 3, "line 3: B's line, not A's", "total of B: none | none: the rules give 9\nA is ahead by 7; by the first sheet A is ahead by 16; by the second sheet A is ahead by 16\n"),
+        (
+            WORD + ">A: AT 9G AT +9 25\n",
+            2,
+            f"before line 2: the other player passes\n{rival.rstrip()}",
+            "total of : none | none: the rules give 0\nA is ahead by 25\n",
+        ),
+        (
+            "#player2 B\n" + WORD + ">A: AT 9G AT +9 9\n>A: - +0 16\n",
+            3,
+            "line 3: B's line, not A's",
+            "total of B: none | none: the rules give 9\nA is ahead by 7; by the first sheet A is ahead by 16; by the second sheet A is ahead by 16\n",
+        ),
     ]:
         Path(run.folder, "itself").write_text(sheet)
         begins = f"none of 1 choice of the lines is known to be a game\nthe record of both sheets goes furthest: line {refused} | line {refused} is refused: NotYourTurn\n"
         out = f"{begins}the record of both sheets is a game with one more change: {words}\nlegal unfinished\n{end}"
         run.row(["compare", "word-at-ra", "word-at-ra.gad", "itself", "itself"], 1, out)
     sheets_of_two(run)
-    for words, out in [(["digit", "word.gad", "line", "line"], "bad word list line 2: BadLetter\n"), (["at", "extra.gad", "line", "line"], "bad lexicon: Extra A\n")]:
+    for words, out in [
+        (["digit", "word.gad", "line", "line"], "bad word list line 2: BadLetter\n"),
+        (["at", "extra.gad", "line", "line"], "bad lexicon: Extra A\n"),
+    ]:
         run.row(["compare", *words], 3, out)
     for sheets in (["third", "line"], ["line", "third"]):
         run.row([*told, *sheets], 3, "bad record line 3: ThirdPlayer\n", error=BAD["third"])
@@ -2112,7 +2540,9 @@ def racks_in_json(run):
     one, other = sheet_line("8E WORD +16 16", line=3), sheet_line("8E WORD +16 16", line=3, rack="ADEEORW")
     said = told("ann", "racks")
     run.expect(f"racks of the own sheet: {said}", said["differences"] == [difference(one, other, "agree", racks="own", own_sheet="first")])
-    run.expect("a choice of racks", said["choices"] == 2 and said["best"]["choice"] == {"lines": [], "racks": ["own"]} and said["verdict"] == "differ")
+    run.expect(
+        "a choice of racks", said["choices"] == 2 and said["best"]["choice"] == {"lines": [], "racks": ["own"]} and said["verdict"] == "differ"
+    )
     run.expect("the players of the first sheet", said["players"] == [{"nick": "A", "name": "Ann Lee"}, {"nick": "B", "name": "Ben Ray"}])
     said = told("own-wrong", "ben-whole")
     wrong = sheet_line("8E WORD +16 16", line=3, rack="AADEORX")
@@ -2176,7 +2606,11 @@ def explained(run):
     for line in ([], ["0"], ["1"]):
         told("nothing", 3, "no game\n", *line)
         told("page", 3, "no game\n", *line)
-    named = "latin-wrong", 1, "illegal line 2: WrongTotal 16\nline 2: >\u00c9va: DORWAAE 8E WORD +16 17\n\u00c9va had 0 and scores 16 on this line, which makes 16, but 17 is written.\n"
+    named = (
+        "latin-wrong",
+        1,
+        "illegal line 2: WrongTotal 16\nline 2: >\u00c9va: DORWAAE 8E WORD +16 17\n\u00c9va had 0 and scores 16 on this line, which makes 16, but 17 is written.\n",
+    )
     by_hand = "is ahead by 16; by the sheet"
     told(named[0], named[1], named[2] + WORD_SUMS + picture_of(2, True, WORD_MARKED) + f"\u00c9va {by_hand} \u00c9va is ahead by 17\n")
     for line in ([], ["0"], ["1"]):
@@ -2185,7 +2619,9 @@ def explained(run):
     down = "illegal line 1: WrongScore 16\nline 1: >A: DORWAAE H8 WORD +18 18\nThe play scores 16, but 18 is written.\n"
     Path(run.folder, "down").write_text(">A: DORWAAE H8 WORD +18 18\n")
     told("down", 1, down + DOWN_SUMS + picture_of(1, True, *DOWN_MARKED) + f"A {by_hand} A is ahead by 18\n")
-    total = "illegal line 1: WrongTotal 16\nline 1: >A: DORWAAE 8E WORD +16 17\nA had 0 and scores 16 on this line, which makes 16, but 17 is written.\n"
+    total = (
+        "illegal line 1: WrongTotal 16\nline 1: >A: DORWAAE 8E WORD +16 17\nA had 0 and scores 16 on this line, which makes 16, but 17 is written.\n"
+    )
     told("line-17", 1, total + WORD_SUMS + picture_of(1, True, WORD_MARKED) + f"A {by_hand} A is ahead by 17\n")
     turn = "illegal line 2: NotYourTurn\nline 2: >A: - +0 16\nIt is the other player's turn, not A's.\n"
     told("turn", 1, turn + picture_of(2, False, ROW_OF_WORD))
@@ -2216,12 +2652,27 @@ def explained(run):
     part = "Line 2: B's play stands with DT, which is not in the word list.\nLine 2 shows 2 of 7 tiles.\nEvery other turn shows its rack.\n"
     run.row([*listed, "unlisted"], 0, f"legal unfinished\n{DEALT}{part}")
     read = "X is played, but the rack AADEORW has none.\nWith W for X on 8E the play makes WORD, and scores 16, as is written.\n"
-    told("misread", 1, f"illegal line 1: WrongScore 24\nline 1: {MISREAD}The play scores 24, but 16 is written.\n{read}{XORD_SUMS}" + picture_of(1, True, WORD_MARKED))
+    told(
+        "misread",
+        1,
+        f"illegal line 1: WrongScore 24\nline 1: {MISREAD}The play scores 24, but 16 is written.\n{read}{XORD_SUMS}"
+        + picture_of(1, True, WORD_MARKED),
+    )
     blank = "With the W on 8E as a blank the play scores 8, as is written.\n"
-    told("as-blank", 1, f"illegal line 1: WrongScore 16\nline 1: >A: 8E WORD +8 8\nThe play scores 16, but 8 is written.\n{blank}{WORD_SUMS}" + picture_of(1, True, WORD_MARKED) + f"A {by_hand} A is ahead by 8\n")
+    told(
+        "as-blank",
+        1,
+        f"illegal line 1: WrongScore 16\nline 1: >A: 8E WORD +8 8\nThe play scores 16, but 8 is written.\n{blank}{WORD_SUMS}"
+        + picture_of(1, True, WORD_MARKED)
+        + f"A {by_hand} A is ahead by 8\n",
+    )
     gone = "It is B's turn, not A's.\nA line of B with +9 seems to be missing between lines 1 and 2.\n"
     told("gone", 1, f"illegal line 2: NotYourTurn\nline 2: >A: - +0 16\n{gone}" + picture_of(2, False, ROW_OF_WORD))
-    told("short-line", 3, "bad record line 1: Code\nline 1: >A: 8E WORD +16\n" + NOT_AN_EVENT + "The score or the total is missing: an event ends with both.\n")
+    told(
+        "short-line",
+        3,
+        "bad record line 1: Code\nline 1: >A: 8E WORD +16\n" + NOT_AN_EVENT + "The score or the total is missing: an event ends with both.\n",
+    )
     back = f"legal unfinished\nline 3: >B: AT -- -9 0\n{allowed}" + picture_of(3, False, ROW_OF_WORD, ROW_OF_AT)
     run.row([*listed, "withdrawn", "3"], 0, back)
     not_judged = "The rules do not allow line 1, so this line was not judged.\n"
@@ -2241,14 +2692,24 @@ def explained(run):
     for words in (["line", "x"], ["line", "-1"], ["line", "4294967296"], ["line", "1", "2"], ["--before", "1", "line"]):
         run.row(["explain", "word", "word.gad", *words], 64, error=None)
     if os.path.exists("/dev/full"):
-        run.row(["explain", "word", "word.gad", "line"], 4, error="referee: write failed: standard output: no space left, error 28 of the system", stdout="/dev/full")
+        run.row(
+            ["explain", "word", "word.gad", "line"],
+            4,
+            error="referee: write failed: standard output: no space left, error 28 of the system",
+            stdout="/dev/full",
+        )
 
 
 def paged(run):
     """`page`: the verdict line, and what is on the page."""
     run.row(["build", "word", "word.gad"], 0)
     out = Path(run.folder, "out")
-    for game, status, verdict in [("line", 0, "legal unfinished"), ("ends", 0, "legal complete"), ("line-18", 1, "illegal line 1: WrongScore 16"), ("turn", 1, "illegal line 2: NotYourTurn")]:
+    for game, status, verdict in [
+        ("line", 0, "legal unfinished"),
+        ("ends", 0, "legal complete"),
+        ("line-18", 1, "illegal line 1: WrongScore 16"),
+        ("turn", 1, "illegal line 2: NotYourTurn"),
+    ]:
         run.row(["page", "word", "word.gad", game, "out"], status, f"{verdict}\n")
         banner = web.read(out.read_bytes()).first("section", "verdict")
         run.expect(f"the banner of {game}", banner.first("h2").text() == verdict and banner.attributes["class"] == f"verdict {verdict.split()[0]}")
@@ -2303,16 +2764,25 @@ def unwritten(run, out, command):
     run.row([command, "word", "word.gad", "line", "folder"], 4, error="referee: cannot open folder: is a folder")
     run.row([command, "many", "at.gad", "line", "out"], 4, error="referee: no memory", wrote=b"as it was", room=1 << 23)
     if os.path.exists("/dev/full"):
-        run.row([command, "word", "word.gad", "line", "/dev/full"], 4, error="referee: write failed: /dev/full: no space left, error 28 of the system")
-        run.row([command, "word", "word.gad", "line", "out"], 4, error="referee: write failed: standard output: no space left, error 28 of the system", stdout="/dev/full")
+        run.row(
+            [command, "word", "word.gad", "line", "/dev/full"], 4, error="referee: write failed: /dev/full: no space left, error 28 of the system"
+        )
+        run.row(
+            [command, "word", "word.gad", "line", "out"],
+            4,
+            error="referee: write failed: standard output: no space left, error 28 of the system",
+            stdout="/dev/full",
+        )
 
 
-BY_POINTS = [  # by the list AT: a record, how many points more the best play of its first line gives, the note, the cell of the page, and the sum for A
-    (">A: AADERTW 8E DRAW +16 16\n", -12, "best 8G AT 4; not in the list: DRAW", "", 0),
-    (">A: AADERTW 8E DRAW +16 16\n>A: AADERTW -- -16 0\n", 4, "best 8G AT 4, 4 more", "+4", 4),
-    (">A: AADERTW 8H AT +4 4\n", 0, "best 8G AT 4, equal", "equal", 0),
-    (">A: AADERTW - +0 0\n", 4, "best 8G AT 4, 4 more", "+4", 4),
-]
+BY_POINTS = (
+    [  # by the list AT: a record, how many points more the best play of its first line gives, the note, the cell of the page, and the sum for A
+        (">A: AADERTW 8E DRAW +16 16\n", -12, "best 8G AT 4; not in the list: DRAW", "", 0),
+        (">A: AADERTW 8E DRAW +16 16\n>A: AADERTW -- -16 0\n", 4, "best 8G AT 4, 4 more", "+4", 4),
+        (">A: AADERTW 8H AT +4 4\n", 0, "best 8G AT 4, equal", "equal", 0),
+        (">A: AADERTW - +0 0\n", 4, "best 8G AT 4, 4 more", "+4", 4),
+    ]
+)
 
 
 KEPT_BESTS = [  # by the list WORD, AT, RA: turns in which players pass with the same racks while the board is the same, and after it changed
@@ -2350,7 +2820,10 @@ def counted_points(run):
         said(run, ["page", "at", "at.gad", "points", "points.html"])
         page = web.read(Path(run.folder, "points.html").read_bytes())
         row = [it.text() for it in page.first("table", "sheet").first("tbody").first("tr").children()]
-        run.expect(f"the page of {text!r}", row[6:8] == ["8G AT 4", cell] and page.first("p", "sums").text() == f"The best plays would have given more: A {left}")
+        run.expect(
+            f"the page of {text!r}",
+            row[6:8] == ["8G AT 4", cell] and page.first("p", "sums").text() == f"The best plays would have given more: A {left}",
+        )
 
 
 def seen(run, words, stream):
@@ -2469,10 +2942,19 @@ def put_out(run):
         ([*page, "-"], (0, Path(run.folder, "out").read_bytes(), b"legal unfinished\n")),
         (["page", "word", "word.gad", "third", "-"], (3, b"", b"bad record line 3: ThirdPlayer\n" + BAD["third"].encode() + b"\n")),
         (["page", "digit", "word.gad", "line", "-"], (3, b"", b"bad word list line 2: BadLetter\n")),
-        (["audit", "--corrected", "-", "word", "word.gad", "line-17"], (1, WORD.encode(), b"line 1: sum 17, should be 16 (A, 8E WORD)\nlegal unfinished\nA is ahead by 16; by the sheet A is ahead by 17\n")),
+        (
+            ["audit", "--corrected", "-", "word", "word.gad", "line-17"],
+            (1, WORD.encode(), b"line 1: sum 17, should be 16 (A, 8E WORD)\nlegal unfinished\nA is ahead by 16; by the sheet A is ahead by 17\n"),
+        ),
         (["audit", "--corrected", "-", "word", "word.gad", "turn"], (1, b"", b"illegal line 2: NotYourTurn\n")),
-        (["fill", "word", "word.gad", "short-line"], (0, b">A: 8E WORD +16 16\n", b"put in: 0 scores, 1 total\nlegal unfinished\nA is ahead by 16\n")),
-        (["audit", "--corrected", "-", "at", "extra.gad", "line"], (3, b"", b"bad lexicon: Extra A\nreferee: extra.gad is not the lexicon of at, but of another list: referee build makes the right one\n")),
+        (
+            ["fill", "word", "word.gad", "short-line"],
+            (0, b">A: 8E WORD +16 16\n", b"put in: 0 scores, 1 total\nlegal unfinished\nA is ahead by 16\n"),
+        ),
+        (
+            ["audit", "--corrected", "-", "at", "extra.gad", "line"],
+            (3, b"", b"bad lexicon: Extra A\nreferee: extra.gad is not the lexicon of at, but of another list: referee build makes the right one\n"),
+        ),
     ]:
         run.expect(words, said(run, words) == ended)
     run.expect("no file is named -", not Path(run.folder, "-").exists())
@@ -2489,7 +2971,14 @@ def put_out(run):
     run.expect("a link to no file", Path(run.folder, "folder/dangling").is_symlink() and Path(run.folder, "made").read_bytes() == AT_FILE)
     run.row(["build", "at", "/dev/null"], 0)
     run.expect("a device", said(run, ["build", "at", "/dev/stdout"]) == (0, AT_FILE, b""))
-    for name, why in (("loop", "too many links"), ("folder", "is a folder"), ("line/x", "error 20 of the system"), ("x" * 300, "error 36 of the system"), ("", "no such file"), ("new/", "no such file")):
+    for name, why in (
+        ("loop", "too many links"),
+        ("folder", "is a folder"),
+        ("line/x", "error 20 of the system"),
+        ("x" * 300, "error 36 of the system"),
+        ("", "no such file"),
+        ("new/", "no such file"),
+    ):
         run.row(["build", "at", name], 4, error=f"referee: cannot open {name}: {why}")
         if name != "folder":
             why = why if name != "new/" else "no such file"
@@ -2545,8 +3034,11 @@ def hinted(run):
     run.row(["top", "--before", "2", "at", "at.gad", "shown-rack"], 3, "bad rack\n", error="referee: the line shows no rack: name one after GAME")
     texts = {
         "no-row": (ENGLISH_RULES.replace(ROW_8, ""), "Missing", "the rules text has no line for row 8"),
-        "few": ("\ufeff bonus 50\n" + "".join(it for it in ENGLISH_RULES.splitlines(True) if it[:5] in ("tile ", "row 1") and "Q" not in it), "Missing",
-                "the rules text has no line for tile Q, row 2, row 3, row 4, row 5, row 6, row 7, row 8, row 9, exchange_min, zero_limit, challenge_unit, time_step"),
+        "few": (
+            "\ufeff bonus 50\n" + "".join(it for it in ENGLISH_RULES.splitlines(True) if it[:5] in ("tile ", "row 1") and "Q" not in it),
+            "Missing",
+            "the rules text has no line for tile Q, row 2, row 3, row 4, row 5, row 6, row 7, row 8, row 9, exchange_min, zero_limit, challenge_unit, time_step",
+        ),
         "nineteen": (TWO_SETS.replace("A 18 1", "A 19 1"), "Limits", "the rules text has 201 tiles together, and may have 14 to 200"),
         "thirteen": (FOURTEEN.replace("A 2 1", "A 1 1"), "Limits", "the rules text has 13 tiles together, and may have 14 to 200"),
         "dear": (ENGLISH_RULES.replace("Q 1 10", "Q 1 100"), "Limits", "tile Q has 100 points in the rules text, and may have 0 to 99"),
@@ -2578,15 +3070,28 @@ def hinted(run):
         run.row([*command, "at", "text.gad", *more], 3, "bad lexicon: Magic\n", error="")
     fault = "bad word list line 1: BadLetter"
     run.row(["build", "at.gad", "out"], 3, error=f"referee: at.gad: {fault}\n{turned.format('at.gad')}", wrote=f"{fault}\n".encode())
-    run.row(["build", "-", "out"], 3, error="referee: standard input: bad word list line 1: BadLength", stdin="A\n", wrote=b"bad word list line 1: BadLength\n")
+    run.row(
+        ["build", "-", "out"],
+        3,
+        error="referee: standard input: bad word list line 1: BadLength",
+        stdin="A\n",
+        wrote=b"bad word list line 1: BadLength\n",
+    )
     run.row(["check", "-", "it-at.gad"], 3, "bad lexicon: Extra I\n", error=other.format("it-at.gad", "standard input"), stdin="AT\n")
 
 
 def misordered(run):
     """Files in the wrong order are named as what they are."""
     order = "the files are WORDS, LEXICON and GAME, in this order"
-    run.row(["judge", "line", "at.gad", "at"], 3, "bad word list line 1: BadLetter\n", error=f"referee: line is a game record, not a word list: {order}")
-    run.row(["judge", "by-hand", "at.gad", "at"], 3, "bad word list line 1: BadLetter\n", error=f"referee: by-hand is a game record, not a word list: {order}")
+    run.row(
+        ["judge", "line", "at.gad", "at"], 3, "bad word list line 1: BadLetter\n", error=f"referee: line is a game record, not a word list: {order}"
+    )
+    run.row(
+        ["judge", "by-hand", "at.gad", "at"],
+        3,
+        "bad word list line 1: BadLetter\n",
+        error=f"referee: by-hand is a game record, not a word list: {order}",
+    )
     run.row(["judge", "at", "at.gad", "it-at"], 0, "legal unfinished\n", error=f"referee: it-at has no event: it is a word list, and {order}")
 
 
@@ -2629,11 +3134,23 @@ def in_json(run):
     game = told(["judge", "--json", "at", "at.gad", "big-rack"])
     run.expect("racks that no deal yields", [game["verdict"], game["line"], game["fault"]] == ["illegal", 3, {"name": "RackTooBig"}])
     run.expect("no report beside an object", told(["judge", "--json", "word", "word.gad", "one-q"])["verdict"] == "unsettled")
-    run.row(["judge", "--json", "word", "word.gad", "nowhere"], 4, refusal("cannot open", file="nowhere"), error="referee: cannot open nowhere: no such file")
-    run.row(["judge", "--json", "word", "folder", "line"], 4, refusal("read failed", file="folder"), error="referee: read failed: folder: is a folder")
+    run.row(
+        ["judge", "--json", "word", "word.gad", "nowhere"],
+        4,
+        refusal("cannot open", file="nowhere"),
+        error="referee: cannot open nowhere: no such file",
+    )
+    run.row(
+        ["judge", "--json", "word", "folder", "line"], 4, refusal("read failed", file="folder"), error="referee: read failed: folder: is a folder"
+    )
     run.row(["check", "--json", "at", "nowhere"], 4, refusal("cannot open", file="nowhere"), error="referee: cannot open nowhere: no such file")
     if os.path.exists("/dev/full"):
-        run.row(["check", "--json", "at", "at.gad"], 4, error="referee: write failed: standard output: no space left, error 28 of the system", stdout="/dev/full")
+        run.row(
+            ["check", "--json", "at", "at.gad"],
+            4,
+            error="referee: write failed: standard output: no space left, error 28 of the system",
+            stdout="/dev/full",
+        )
     run.row(["check", "--json", "--json", "at", "at.gad"], 64, error=None)
     audit = ["audit", "--json", "word", "word.gad"]
     keys = '{"verdict":"%s","line":%s,"fault":%s,"ending":%s,"players":[{"nick":"A","name":null},{"nick":null,"name":null}],"wrong":[%s],"ahead":{"player":1,"by":16},"ahead_by_sheet":{"player":1,"by":%d},"amount":null,"unread_lines":[]}\n'
@@ -2654,7 +3171,12 @@ def in_json(run):
         alone = told(["repair", "--json", "word", "word.gad", game])["numbers_alone"]
         counted = {"numbers": 6, "numbers_right": 5, "wrong": [{"wrong": wrong[0], "line": 1, "written": wrong[1], "right": 16}], "unlisted": []}
         run.expect(f"the numbers that repair counts of {game}", alone == counted)
-    run.row([*audit, "nothing"], 3, '{"verdict":"no game","line":null,"fault":null,"ending":null,"players":[%s,%s],"wrong":[],"ahead":null,"ahead_by_sheet":null,"amount":null,"unread_lines":[]}\n' % (('{"nick":null,"name":null}',) * 2))
+    run.row(
+        [*audit, "nothing"],
+        3,
+        '{"verdict":"no game","line":null,"fault":null,"ending":null,"players":[%s,%s],"wrong":[],"ahead":null,"ahead_by_sheet":null,"amount":null,"unread_lines":[]}\n'
+        % (('{"nick":null,"name":null}',) * 2),
+    )
     run.row([*audit, "third"], 3, refusal("bad record", 3, {"name": "ThirdPlayer"}))
     run.row([*audit, "nowhere"], 4, refusal("cannot open", file="nowhere"), error="referee: cannot open nowhere: no such file")
     run.row([*audit, "--corrected", "out", "line"], 64, error=None)
@@ -2674,7 +3196,9 @@ def in_json(run):
     board = told(["board", "--json", "line"])
     run.expect("the keys of a board", list(board) == ["verdict", "line", "fault", "before", "rows", "players", "rack", "off_board", "unread_lines"])
     run.expect("a row of a board", board["rows"][7] == "=..'WORD...'..=" and len(board["rows"]) == 15)
-    run.expect("the tiles that are not on the board", board["off_board"]["number"] == 96 and board["off_board"]["kinds"][3] == {"tile": "D", "number": 3})
+    run.expect(
+        "the tiles that are not on the board", board["off_board"]["number"] == 96 and board["off_board"]["kinds"][3] == {"tile": "D", "number": 3}
+    )
     run.expect("the totals of a board", [player["total"] for player in board["players"]] == [16, 0])
     board = told(["board", "--json", "--before", "1", "line"])
     run.expect("the board before a line", [board["before"], board["rack"], board["rows"][7]] == [1, "AADEORW", "=..'...-...'..="])
@@ -2726,7 +3250,13 @@ def lines_unread(run):
 def objects(run, pair):
     """The objects and the lines of an archive have the lines that are not read."""
     wanted = [{"line": line, "why": why} for line, (why, _) in UNREAD.items()]
-    for command in (["judge", "--json", *pair], ["audit", "--json", *pair], ["explain", "--json", *pair], ["repair", "--json", *pair], ["board", "--json"]):
+    for command in (
+        ["judge", "--json", *pair],
+        ["audit", "--json", *pair],
+        ["explain", "--json", *pair],
+        ["repair", "--json", *pair],
+        ["board", "--json"],
+    ):
         ran = subprocess.run([run.program, *command, "unread-kinds"], cwd=run.folder, capture_output=True, check=False)
         told = json.loads(ran.stdout)
         run.expect(f"the lines that {command[0]} does not read", list(told)[-1] == "unread_lines" and told["unread_lines"] == wanted)
@@ -2751,7 +3281,12 @@ def faulty(run, pair):
     told = f"{bad}line 1: >A: 8E WORD +x 16\n{first}\nline 2: >B: 8H +9 9\n{code}\n{word}\nline 5: >C: AEINRST - 0\n{last}\n{lacks}\n"
     run.row(["explain", *pair, "bad-twice"], 3, f"{told}Line 3 is not read: it has no > in front.\n", error=unread)
     marks = ">A is a third nickname: the players are A and B."
-    run.row(["judge", *pair, "two-marks"], 3, "bad record line 3: ThirdPlayer\n", error=f"referee: two-marks line 3: {marks} The line begins with more than one >.")
+    run.row(
+        ["judge", *pair, "two-marks"],
+        3,
+        "bad record line 3: ThirdPlayer\n",
+        error=f"referee: two-marks line 3: {marks} The line begins with more than one >.",
+    )
     run.row(["explain", *pair, "time-rack"], 1, None, error="")
     ran = subprocess.run([run.program, "explain", *pair, "time-rack"], cwd=run.folder, capture_output=True, check=False)
     sentence = b"(TIME) on line 2 is a last rack with the tiles T, I, M and E: a penalty is written (time).\n"
@@ -2786,7 +3321,10 @@ def explained_in_json(run, told):
     run.expect("no likely repair of a legal record", said["likely"] is None)
     Path(run.folder, "nine").write_text(WORD.replace("8E", "9E"))
     said = told(["explain", "--json", "word", "word.gad", "nine"])["likely"]
-    run.expect("a likely repair", [said[key] for key in ("at", "line", "slip", "lines", "others")] == ["on", 1, "one square off", [">A: AADEORW 8E WORD +16 16"], []])
+    run.expect(
+        "a likely repair",
+        [said[key] for key in ("at", "line", "slip", "lines", "others")] == ["on", 1, "one square off", [">A: AADEORW 8E WORD +16 16"], []],
+    )
     Path(run.folder, "passing").write_text(f"{WORD}>A: - +0 16\n")
     said = told(["repair", "--json", "word", "word.gad", "passing"])["repairs"][0]
     run.expect("a pass too many", [said[key] for key in ("at", "line", "slip", "lines", "weight", "cost")] == ["on", 2, "pass too many", [], 2, 2])
@@ -2795,7 +3333,12 @@ def explained_in_json(run, told):
     run.row(["explain", "--json", "word", "word.gad", "nothing"], 3, refusal("no game", unread_lines=[]), error="")
     run.row(["explain", "--json", "word", "word.gad", "third"], 3, refusal("bad record", 3, {"name": "ThirdPlayer"}))
     run.row(["explain", "--json", "digit", "folder", "line"], 3, refusal("bad word list", 2, {"name": "BadLetter"}))
-    run.row(["explain", "--json", "word", "word.gad", "nowhere"], 4, refusal("cannot open", file="nowhere"), error="referee: cannot open nowhere: no such file")
+    run.row(
+        ["explain", "--json", "word", "word.gad", "nowhere"],
+        4,
+        refusal("cannot open", file="nowhere"),
+        error="referee: cannot open nowhere: no such file",
+    )
 
 
 def on_drafts(run):
@@ -2808,9 +3351,17 @@ def on_drafts(run):
         return f"illegal line 1: WrongScore 16\nline 1: {line}\nThe play scores 16, but 18 is written.\n"
 
     sums, fits = WORD_SUMS + picture_of(1, True, WORD_MARKED), "With 16 the total is 16, as is written.\n"
-    turn = "illegal line 2: NotYourTurn\nline 2: >A: -\nIt is the other player's turn, not A's.\nIf this is a line of the other player, the rules allow it.\n" + picture_of(2, False, ROW_OF_WORD)
-    total = "illegal line 3: WrongTotal 16\nline 3: >A: - +0 18\nA had 16 and scores 0 on this line, which makes 16, but 18 is written.\n" + picture_of(3, False, ROW_OF_WORD)
-    not_judged = "illegal line 2: NotYourTurn\nline 3: >B: -\nThe rules do not allow line 2, so this line was not judged.\n" + picture_of(3, False, ROW_OF_WORD)
+    turn = (
+        "illegal line 2: NotYourTurn\nline 2: >A: -\nIt is the other player's turn, not A's.\nIf this is a line of the other player, the rules allow it.\n"
+        + picture_of(2, False, ROW_OF_WORD)
+    )
+    total = (
+        "illegal line 3: WrongTotal 16\nline 3: >A: - +0 18\nA had 16 and scores 0 on this line, which makes 16, but 18 is written.\n"
+        + picture_of(3, False, ROW_OF_WORD)
+    )
+    not_judged = "illegal line 2: NotYourTurn\nline 3: >B: -\nThe rules do not allow line 2, so this line was not judged.\n" + picture_of(
+        3, False, ROW_OF_WORD
+    )
     for draft, status, out, line in [
         (bare, 0, f"legal unfinished\n{STANDS}", []),
         (WORD, 0, f"legal unfinished\n{STANDS}", []),
@@ -2878,12 +3429,22 @@ def drafts_repaired(run, files):
         if kept and kept.startswith("not written"):
             run.row(["repair", "--draft", "--repaired", "out", *files], status, out + kept, wrote=b"as it was")
         elif kept:
-            run.row(["repair", "--draft", "--repaired", "out", *files], status, out + "written: the sheet with the first repair\n", wrote=kept.encode())
+            run.row(
+                ["repair", "--draft", "--repaired", "out", *files], status, out + "written: the sheet with the first repair\n", wrote=kept.encode()
+            )
     Path(run.folder, "draft").write_text(no_score)
     said = json.loads(subprocess.run([run.program, "repair", "--json", "--draft", *files], cwd=run.folder, capture_output=True, check=False).stdout)
     told = {"numbers": 1, "numbers_right": 0, "wrong": [{"wrong": "score", "line": 1, "written": 18, "right": 16}], "unlisted": []}
-    run.expect("the numbers of a draft to go by", [said["to_go_by"], said["numbers_alone"], said["repairs"][0]["evidence"]["numbers"]] == [1, told, 0])
-    served = subprocess.run([run.program, "serve", *files[:2]], cwd=run.folder, input=json.dumps({"do": "repair", "draft": True, "game": no_score}).encode(), capture_output=True, check=False)
+    run.expect(
+        "the numbers of a draft to go by", [said["to_go_by"], said["numbers_alone"], said["repairs"][0]["evidence"]["numbers"]] == [1, told, 0]
+    )
+    served = subprocess.run(
+        [run.program, "serve", *files[:2]],
+        cwd=run.folder,
+        input=json.dumps({"do": "repair", "draft": True, "game": no_score}).encode(),
+        capture_output=True,
+        check=False,
+    )
     run.expect("a draft is repaired for a request", json.loads(served.stdout.split(b"\n")[1]) == {"id": None, "status": 1, "answer": said})
     Path(run.folder, "draft").write_text(WORD)
     said = json.loads(subprocess.run([run.program, "repair", "--json", *files], cwd=run.folder, capture_output=True, check=False).stdout)
@@ -2904,24 +3465,47 @@ def drafts_compared(run, bare):
         (bare, WORD, 0, ahead, merged),
         (WORD, bare, 0, ahead, merged),
         (WORD, WORD, 0, ahead, merged),
-        (f"{bare} +18 18\n", bare, 1, legal + "total of A: 18 | none: the rules give 16\nA is ahead by 16; by the first sheet A is ahead by 18\n", merged),
+        (
+            f"{bare} +18 18\n",
+            bare,
+            1,
+            legal + "total of A: 18 | none: the rules give 16\nA is ahead by 16; by the first sheet A is ahead by 18\n",
+            merged,
+        ),
         (f"{bare} +18\n", bare, 1, ahead, merged),
         (f"{bare} +16\n", f"{bare} +18\n", 1, f"line 1 | line 1: 8E WORD +16 | 8E WORD +18: the rules give 16\n{ahead}", merged),
         (bare, bare.replace("8E", "8D"), 1, f"line 1 | line 1: 8E WORD | 8D WORD: {refused}", merged),
         (WORD, bare.replace("8E", "8D"), 1, f"line 1 | line 1: 8E WORD +16 16 | 8D WORD: {refused}", merged),
         # a number that only one sheet has says which line it was
         (bare, ">A: -\n", 1, f"line 1 | line 1: 8E WORD | -: {both}{ahead}", rival),
-        (bare, ">A: - +0\n", 1, f"line 1 | line 1: 8E WORD | - +0: the second; the first leaves more wrong\n{legal}both have the same total\n", no_play),
+        (
+            bare,
+            ">A: - +0\n",
+            1,
+            f"line 1 | line 1: 8E WORD | - +0: the second; the first leaves more wrong\n{legal}both have the same total\n",
+            no_play,
+        ),
         # no change is looked for where a number is missing
         (bare.replace("8E", "8D"), bare.replace("8E", "8C"), 1, f"line 1 | line 1: 8D WORD | 8C WORD\n{stuck}", no_game),
-        (WORD.replace("8E", "8D"), WORD.replace("8E", "8C"), 1, f"line 1 | line 1: 8D WORD +16 16 | 8C WORD +16 16\n{stuck}first is a game with one more change: line 1: WORD at 8E, not at 8D\n{ahead}", merged),
+        (
+            WORD.replace("8E", "8D"),
+            WORD.replace("8E", "8C"),
+            1,
+            f"line 1 | line 1: 8D WORD +16 16 | 8C WORD +16 16\n{stuck}first is a game with one more change: line 1: WORD at 8E, not at 8D\n{ahead}",
+            merged,
+        ),
     ]:
         Path(run.folder, "one").write_text(first)
         Path(run.folder, "two").write_text(second)
         run.row([*told, "one", "two"], status, out)
         Path(run.folder, "out").write_bytes(b"as it was")
         written = kept.startswith("#")
-        run.row([told[0], "--merged", "out", *told[1:], "one", "two"], status, out + (done if written else kept), wrote=kept.encode() if written else b"as it was")
+        run.row(
+            [told[0], "--merged", "out", *told[1:], "one", "two"],
+            status,
+            out + (done if written else kept),
+            wrote=kept.encode() if written else b"as it was",
+        )
     for text, why in AMISS.items():
         Path(run.folder, "one").write_text(text)
         for sheets in (["one", "line"], ["line", "one"]):
@@ -2946,7 +3530,9 @@ def on_drafts_in_json(run, bare, files):
     def told(words, asked, status):
         ran = subprocess.run([run.program, *words], cwd=run.folder, capture_output=True, check=False)
         run.expect(f"the status of {words}", ran.returncode == status)
-        served = subprocess.run([run.program, "serve", "word", "word.gad"], cwd=run.folder, input=json.dumps(asked).encode(), capture_output=True, check=False)
+        served = subprocess.run(
+            [run.program, "serve", "word", "word.gad"], cwd=run.folder, input=json.dumps(asked).encode(), capture_output=True, check=False
+        )
         said = json.loads(served.stdout.split(b"\n")[1])
         run.expect(f"{asked} is answered with {said}", said == {"id": None, "status": status, "answer": json.loads(ran.stdout)})
         return json.loads(ran.stdout)
@@ -2961,7 +3547,9 @@ def on_drafts_in_json(run, bare, files):
         Path(run.folder, "draft").write_text(text)
         for do, words in (("explain", files), ("board", ["draft"])):
             said = told([do, "--json", "--draft", *words], {"do": do, "draft": True, "game": text}, 3)
-            run.expect("a text that is no draft", json.dumps(said, separators=(",", ":")) + "\n" == refusal("bad record", 1, {"name": "Fields"}, amiss=name))
+            run.expect(
+                "a text that is no draft", json.dumps(said, separators=(",", ":")) + "\n" == refusal("bad record", 1, {"name": "Fields"}, amiss=name)
+            )
 
 
 def helped(run):
@@ -2971,7 +3559,24 @@ def helped(run):
     run.row(["rules"], 0, ENGLISH_RULES)
     for words in (["help"], ["--help"], ["-h"], ["judge", "--help"], ["judge", "-h"], ["help", "help"]):
         run.row(words, 0, None)
-    for command in ("judge", "archive", "audit", "fill", "explain", "repair", "page", "board", "build", "check", "word", "convert", "top", "tidy", "serve", "rules"):
+    for command in (
+        "judge",
+        "archive",
+        "audit",
+        "fill",
+        "explain",
+        "repair",
+        "page",
+        "board",
+        "build",
+        "check",
+        "word",
+        "convert",
+        "top",
+        "tidy",
+        "serve",
+        "rules",
+    ):
         run.row(["help", command], 0, None)
         run.row([command, "--help"], 0, None)
     if os.path.exists("/dev/full"):
@@ -2987,7 +3592,17 @@ def misused(run):
         run.row(["archive", "word", "word.gad", *words], 64, error=None)
     run.row(["archive", "word"], 64, error=None)
     run.row(["archive", "--settle", "word", "word.gad", "line"], 64, error=None)
-    for command, count in [("judge", 3), ("build", 2), ("check", 2), ("convert", 3), ("top", 4), ("tidy", 1), ("board", 1), ("audit", 3), ("page", 4)]:
+    for command, count in [
+        ("judge", 3),
+        ("build", 2),
+        ("check", 2),
+        ("convert", 3),
+        ("top", 4),
+        ("tidy", 1),
+        ("board", 1),
+        ("audit", 3),
+        ("page", 4),
+    ]:
         for names in range(count):
             run.row([command, *["at"] * names], 64, error=None)
         run.row([command, *["at"] * (count + 1)], 64, error=None)
@@ -3002,7 +3617,47 @@ def main():
     with tempfile.TemporaryDirectory() as folder:
         files(folder)
         run = Runner(os.path.abspath(sys.argv[1]), folder)
-        for part in (judged, settled, built_and_checked, converted, topped, topped_before, ruled, tidied, boarded, widest, from_standard_input, fielded, skipped, words_ruled, archived, served, audited, filled, on_drafts, repairs_listed, left_open, compared, choices_left_open, explained, explain_rows, paged, annotated, kept_bests, counted_points, on_a_terminal, in_json, lines_unread, put_out, overwritten, hinted, misordered, broken, helped, misused):
+        for part in (
+            judged,
+            settled,
+            built_and_checked,
+            converted,
+            topped,
+            topped_before,
+            ruled,
+            tidied,
+            boarded,
+            widest,
+            from_standard_input,
+            fielded,
+            skipped,
+            words_ruled,
+            archived,
+            served,
+            audited,
+            filled,
+            on_drafts,
+            repairs_listed,
+            left_open,
+            compared,
+            choices_left_open,
+            explained,
+            explain_rows,
+            paged,
+            annotated,
+            kept_bests,
+            counted_points,
+            on_a_terminal,
+            in_json,
+            lines_unread,
+            put_out,
+            overwritten,
+            hinted,
+            misordered,
+            broken,
+            helped,
+            misused,
+        ):
             part(run)
         if sys.argv[2:] == ["large"]:
             converted_large(run)

@@ -8,7 +8,22 @@ import tempfile
 from pathlib import Path
 
 ROOT = Path(__file__).resolve().parents[2]
-WANTED = {"referee", "referee.1", "referee.bash", "_referee", "referee.fish", "python/referee/__init__.py", "python/pyproject.toml", "web/start.sh", "web/table/judge.py", "web/table/static/table.css", "web/table/templates/game.html", "README.md", "CHANGELOG.md", "SHA256SUMS"}
+WANTED = {
+    "referee",
+    "referee.1",
+    "referee.bash",
+    "_referee",
+    "referee.fish",
+    "python/referee/__init__.py",
+    "python/pyproject.toml",
+    "web/start.sh",
+    "web/table/judge.py",
+    "web/table/static/table.css",
+    "web/table/templates/game.html",
+    "README.md",
+    "CHANGELOG.md",
+    "SHA256SUMS",
+}
 
 
 def packed(program, folder):

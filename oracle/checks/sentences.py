@@ -35,7 +35,11 @@ RECORDS = {
     "TooLong": [("\n" * 1_048_577, WORDS)],
     "TooManyEvents": [(">A: - +0 0\n" * 1_001, WORDS)],
     "NoColon": [(">Ann Lee: 8E WORD +16 16\n", WORDS)],
-    "ThirdPlayer": [("#player1 Ann\n#player2 Ann\n", WORDS), (">A: - +0 0\n>B: - +0 0\n>C: - +0 0\n", WORDS), (">A: - +0 0\n>B: - +0 0\n>>A: - +0 0\n", WORDS)],
+    "ThirdPlayer": [
+        ("#player1 Ann\n#player2 Ann\n", WORDS),
+        (">A: - +0 0\n>B: - +0 0\n>C: - +0 0\n", WORDS),
+        (">A: - +0 0\n>B: - +0 0\n>>A: - +0 0\n", WORDS),
+    ],
     "Fields": [(">Ann: 8E\n", WORDS), (">Ann: AEINRST 8D RETAINS +66 66 a bingo\n", WORDS)],
     "Rack": [(">Ann: AEINRSTU - +0 0\n", WORDS)],
     "Position": [(">Ann: 16A AT +4 4\n", WORDS)],
@@ -79,10 +83,7 @@ RECORDS = {
     "LastRackSize": [(before(">Bob: (RR)") + ">Bob: (R) +2 354\n", None)],
     "BadTime": [(">A: (time) -7 -7\n", WORDS), (">A: (time) -5 -5\n>B: - +0 0\n>A: (time) -5 -10\n", WORDS)],
     "RackTooBig": [(">A: AEINRST 8H AT +4 4\n>B: - +0 0\n>A: AAABCDE - +0 4\n", WORDS), (">A: AADEORW 8E XORD +24 24\n", WORDS)],
-    "NoDeal": [
-        (">A: AEINRST -1 +0 0\n>B: - +0 0\n>A: BCDFGHJ - +0 0\n", WORDS),
-        (">A: Q -Q +0 0\n>B: - +0 0\n>A: Q -Q +0 0\n", WORDS),
-    ],
+    "NoDeal": [(">A: AEINRST -1 +0 0\n>B: - +0 0\n>A: BCDFGHJ - +0 0\n", WORDS), (">A: Q -Q +0 0\n>B: - +0 0\n>A: Q -Q +0 0\n", WORDS)],
     "TilesShort": [(">A: ?? - +0 0\n>B: ? - +0 0\n", WORDS)],
 }
 
@@ -101,7 +102,9 @@ def explained(program, game, words, rules=ENGLISH):
         inputs = {"words": "\n".join(words.split()).encode(), "lexicon": build(set(words.split())), "game": game.encode(), "rules": text_of(rules)}
         for name, data in inputs.items():
             Path(folder, name).write_bytes(data)
-        ran = subprocess.run([program, "explain", "--rules", "rules", "words", "lexicon", "game"], cwd=folder, capture_output=True, check=False, timeout=600)
+        ran = subprocess.run(
+            [program, "explain", "--rules", "rules", "words", "lexicon", "game"], cwd=folder, capture_output=True, check=False, timeout=600
+        )
         return ran.stdout.decode()
 
 

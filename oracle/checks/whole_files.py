@@ -159,7 +159,15 @@ class Breaker:
         """One run, and whether it met the refusal."""
         self.mark.unlink(missing_ok=True)
         self.runs += 1
-        ran = subprocess.run([self.program, *words], cwd=self.folder, env={**os.environ, **self.loaded, **more}, capture_output=True, timeout=60, check=False, preexec_fn=limit)
+        ran = subprocess.run(
+            [self.program, *words],
+            cwd=self.folder,
+            env={**os.environ, **self.loaded, **more},
+            capture_output=True,
+            timeout=60,
+            check=False,
+            preexec_fn=limit,
+        )
         return (ran.returncode, ran.stdout, ran.stderr), self.mark.exists()
 
     def expect(self, good, *what):
@@ -171,7 +179,10 @@ class Breaker:
     def whole(self, outs, found, there, new):
         """Whether each file is as it was or as the command writes it. An index has no link of a page that could not be written."""
         old = BEFORE if there else None
-        return all(it in (old, made) or it and out == INDEX and it.startswith(made[:99]) and it.endswith(made[-99:]) for out, it, made in zip(outs, found, new))
+        return all(
+            it in (old, made) or it and out == INDEX and it.startswith(made[:99]) and it.endswith(made[-99:])
+            for out, it, made in zip(outs, found, new)
+        )
 
     def refuse(self, name, words, outs, there, ends, new):
         """Refuses each call of a command in turn, in several ways."""
@@ -194,6 +205,7 @@ class Breaker:
         """Runs a command with a limit on the length of files, which stops it or fails its writes."""
         for length in {0, 1, *(len(it) - 1 for it in new)}:
             for ignores in (False, True):
+
                 def limited(length=length, ignores=ignores):
                     resource.setrlimit(resource.RLIMIT_FSIZE, (length, length))
                     signal.signal(signal.SIGXFSZ, signal.SIG_IGN if ignores else signal.SIG_DFL)
@@ -216,7 +228,9 @@ class Breaker:
             for _ in range(kills // 2):
                 self.prepare(outs, there)
                 self.runs += 1
-                with subprocess.Popen([self.program, *words], cwd=self.folder, env={**os.environ, **more}, stdout=subprocess.DEVNULL, stderr=subprocess.DEVNULL) as process:
+                with subprocess.Popen(
+                    [self.program, *words], cwd=self.folder, env={**os.environ, **more}, stdout=subprocess.DEVNULL, stderr=subprocess.DEVNULL
+                ) as process:
                     time.sleep(random.uniform(0, lasts))
                     process.kill()
                 found, left = self.found(outs), self.left()

@@ -40,8 +40,19 @@ def dealt_games(rules):
 def other_games(rules):
     """A game that nobody dealt, mostly, or a damaged record, or a file without an event."""
     if likely(0.1):
-        yield choose([b"#character-encoding ISO-8859-1\n>\xc9va: - +0 0\n", b"#character-encoding\tiso-8859-1 x\r\n>\xe9\\t: - +0 0\n", b">a\\b: - +0 0\n",
-                      b" #character-encoding ISO-8859-1\n>\xc9va: - +0 0\n", b"", b"<html>\n", b"#player1 A Ann Lee\n", b" >A: - +0 0\n", b"\xff\xfe>\0A\0:\0"]), set(), set(), False
+        yield choose(
+            [
+                b"#character-encoding ISO-8859-1\n>\xc9va: - +0 0\n",
+                b"#character-encoding\tiso-8859-1 x\r\n>\xe9\\t: - +0 0\n",
+                b">a\\b: - +0 0\n",
+                b" #character-encoding ISO-8859-1\n>\xc9va: - +0 0\n",
+                b"",
+                b"<html>\n",
+                b"#player1 A Ann Lee\n",
+                b" >A: - +0 0\n",
+                b"\xff\xfe>\0A\0:\0",
+            ]
+        ), set(), set(), False
         return
     maker = Maker(choose([2, 6, 40, 120]), rules)
     game = text_from(maker.game())

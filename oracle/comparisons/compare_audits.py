@@ -38,7 +38,11 @@ def with_wrong_score(events):
     event = events[place]
     changed = shifted(events, place, by)
     changed[place] = replace(changed[place], score=event.score + by)
-    return changed, [(place, 0, f"line {place + 1}: score {event.score + by}, should be {event.score} ({'AB'[event.player]}, {event.text})")], {event.player: by}
+    return (
+        changed,
+        [(place, 0, f"line {place + 1}: score {event.score + by}, should be {event.score} ({'AB'[event.player]}, {event.text})")],
+        {event.player: by},
+    )
 
 
 def with_wrong_sum(events, right, but=None):
@@ -91,7 +95,10 @@ class By:
         for place, (event, other) in enumerate(zip(written, right)):
             head, _, _ = line(event).rstrip("\n").rsplit(" ", 2)
             given = [number_in(event.score, None), number_in(event.total, None)]
-            wanted = [given[0] if event.score == other.score else number_in(other.score, True), given[1] if event.total == other.total else number_in(other.total, False)]
+            wanted = [
+                given[0] if event.score == other.score else number_in(other.score, True),
+                given[1] if event.total == other.total else number_in(other.total, False),
+            ]
             first, second, third = (choose([" ", " ", "\t", "   "]) for _ in range(3))
             third = choose(["", third])
             last = end if place + 1 < len(written) else choose(["", end])

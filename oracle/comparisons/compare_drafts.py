@@ -167,21 +167,27 @@ class Drafts(Differences):
         numbers = [it.line for it in written]
         nicks = [players[seat][0].decode("latin-1") if players[seat] else "" for seat in (0, 1)]
         found = fill(events, lacks, listed, rules, numbers, nicks)
-        sheet = [replace(event, score=right.score if missing == 2 else event.score, total=right.total if missing else event.total)
-                 for event, right, missing in zip(events, found.right, lacks)]
+        sheet = [
+            replace(event, score=right.score if missing == 2 else event.score, total=right.total if missing else event.total)
+            for event, right, missing in zip(events, found.right, lacks)
+        ]
         told, verdicts = ways(sheet, listed, rules, numbers, nicks)
         rest, said = without_amount(lines[1:])
-        verdict = "\n".join(rest[len(found.told):])
+        verdict = "\n".join(rest[len(found.told) :])
         self.seen["told " + verdict.partition(" ")[0]] += 1
-        self.expect(lines[0] == put_in(lacks[:found.stop]), lines, lacks)
-        self.expect(rest[:len(found.told)] == found.told and verdict in verdicts, lines, found.told, verdicts[:3])
+        self.expect(lines[0] == put_in(lacks[: found.stop]), lines, lacks)
+        self.expect(rest[: len(found.told)] == found.told and verdict in verdicts, lines, found.told, verdicts[:3])
         self.expect(verdict not in verdicts or code == status(found.told, verdict), "status", code, lines)
         kept = not said and not verdict.startswith("illegal")
         self.expect((out is not None) == kept, "written", lines)
         if out is not None:
             self.expect(out == filled_text(draft, written, [(it.score, it.total) for it in found.right]), "record", draft, out)
-        told = [{"line": number, "score": it.score, "total": it.total, "score_put_in": missing == 2} for number, it, missing in zip(numbers, found.right, lacks) if missing]
-        self.objects(draft, verdict, code, out, lacks[:found.stop], told[:sum(map(bool, lacks[:found.stop]))])
+        told = [
+            {"line": number, "score": it.score, "total": it.total, "score_put_in": missing == 2}
+            for number, it, missing in zip(numbers, found.right, lacks)
+            if missing
+        ]
+        self.objects(draft, verdict, code, out, lacks[: found.stop], told[: sum(map(bool, lacks[: found.stop]))])
         self.others(draft, written, sheet, lacks, found.stop)
         if len(sheet) <= 8 and likely(0.1):
             self.repaired(draft, sheet, lacks, listed, rules, numbers, nicks)
@@ -224,7 +230,9 @@ class Drafts(Differences):
         if not any(b"challenge" in it.what for it in written):
             self.expect(told == wanted, "board", draft, told, wanted)
         if not any(lacks):
-            told, wanted = (self.run("explain", *more, *rules, "words", "lexicon", name, at) for more, name in ((["--draft"], "draft"), ([], "sheet")))
+            told, wanted = (
+                self.run("explain", *more, *rules, "words", "lexicon", name, at) for more, name in ((["--draft"], "draft"), ([], "sheet"))
+            )
             self.expect((told.stdout, told.returncode) == (wanted.stdout, wanted.returncode), "explain", draft, told.stdout, wanted.stdout)
 
     def objects(self, draft, verdict, code, out, lacks, lines):
@@ -241,7 +249,9 @@ class Drafts(Differences):
         asked = [{"do": "fill", "draft": text, "filled": True}, {"do": "fill", "draft": text}, {"do": "next", "draft": text}]
         self.put("requests", b"".join(json.dumps(it).encode() + b"\n" for it in asked))
         with open(self.folder / "requests", "rb") as requests:
-            served = subprocess.run([self.program, "serve", *self.by, "words", "lexicon"], cwd=self.folder, stdin=requests, capture_output=True, check=False, timeout=600)
+            served = subprocess.run(
+                [self.program, "serve", *self.by, "words", "lexicon"], cwd=self.folder, stdin=requests, capture_output=True, check=False, timeout=600
+            )
         answers = [json.loads(it) for it in served.stdout.splitlines()[1:]]
         bare = {"id": None, "status": code, "answer": told}
         wanted = [bare | ({} if record is None else {"text": record}), bare, {"id": None, "status": ahead.returncode, "answer": foretold}]
@@ -290,8 +300,10 @@ class Drafts(Differences):
         """A draft with a line that is not one of a draft."""
         good = [b">A: 8D WORD", b">B: -", b">A: AEINRST 8E AT +4", b">B: DORWAAE -DOR +0 0", b">A: --", b">B: (challenge) +5", b">A: (time) -10 3"]
         lines = [choose(good) for _ in range(random.randrange(4))]
-        fields = [choose([b"8D", b"WORD", b"AEINRST", b"-", b"--", b"-3", b"(time)", b"(challenge)", b"(AB)", b"+4", b"16", b"x9", b"16A", b"W0RD", b"(8E"])
-                  for _ in range(random.randrange(8))]
+        fields = [
+            choose([b"8D", b"WORD", b"AEINRST", b"-", b"--", b"-3", b"(time)", b"(challenge)", b"(AB)", b"+4", b"16", b"x9", b"16A", b"W0RD", b"(8E"])
+            for _ in range(random.randrange(8))
+        ]
         lines.insert(random.randrange(len(lines) + 1), b">" + choose([b"A:", b"A:", b"A:", b"A", b"A B:", b"C:"]) + b" " + b" ".join(fields))
         text = choose([b"\n", b"\r\n"]).join(lines)
         try:

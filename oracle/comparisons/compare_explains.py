@@ -41,7 +41,18 @@ class Explaining(Differences):
         told = explained(words, lexicon, game, asked, said, text)
         if said != told or ran.returncode != status_of(told) or ran.stderr != advice("explain", told, "game", game):
             self.differences += 1
-            print("line", asked, "status", ran.returncode, ran.stderr, ran.stdout.decode("latin-1"), "for", told.decode("latin-1"), game.decode("latin-1"), sep="\n")
+            print(
+                "line",
+                asked,
+                "status",
+                ran.returncode,
+                ran.stderr,
+                ran.stdout.decode("latin-1"),
+                "for",
+                told.decode("latin-1"),
+                game.decode("latin-1"),
+                sep="\n",
+            )
 
 
 compare_cases(Explaining, lambda explaining, _: explaining.case())

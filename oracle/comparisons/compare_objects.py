@@ -42,7 +42,9 @@ class Objects(Differences):
             line_asked = [] if asked is None else [str(asked)]
             self.compare(["explain", *by, *pair, "game", *line_asked], explained_objects(words, lexicon, game, asked, text), asked)
         before, number = some_line(game), random.choice([1, 9, 10, 11, 40, 100])
-        rack = random.choice(["", "AB1", "ABCDEFGH"]) if likely(0.1) else in_either_case(random_rack(TILES)) if before is None or likely(0.5) else None
+        rack = (
+            random.choice(["", "AB1", "ABCDEFGH"]) if likely(0.1) else in_either_case(random_rack(TILES)) if before is None or likely(0.5) else None
+        )
         asked = ["--before", str(before)] if before is not None else []
         told = topped_object(words, lexicon, game, rack, text, number, before)
         self.compare(["top", "--number", str(number), *asked, *by, *pair, "game", *([] if rack is None else [rack])], [told])

@@ -98,7 +98,9 @@ class Pages(Differences):
         verdicts = [audits.on_line(verdict, lines) for verdict in settled_verdicts(events, listed, rules)]
         verdict = ran.stdout.decode("latin-1").removesuffix("\n")
         self.seen[verdict.split(": ")[-1].split(" ")[0]] += 1
-        self.expect(verdict in verdicts and ran.returncode == status_of(ran.stdout) and ran.stderr == unread_advice("game", game), ran, verdicts[:3], game)
+        self.expect(
+            verdict in verdicts and ran.returncode == status_of(ran.stdout) and ran.stderr == unread_advice("game", game), ran, verdicts[:3], game
+        )
         if page is None or verdict not in verdicts:
             return self.expect(False, "no page", ran)
         self.expect(len(events) > 30 or len(page) < 150_000, len(page), "bytes")

@@ -27,7 +27,18 @@ from repair_objects import chain_wanted, repaired_objects
 from repair_rows import CHAINS, LINES, NONE, OPEN, PHONIES, ROWS, TWO, puts
 from repair_figures import SLIPS, STYLES, TURNS, some_sheet, with_two_slips
 from repair_texts import (
-    amount_repair, chain_text, choice, likely_repair, likely_sheet, numbered, pairs_text, repair_text, sheet_text, suggested_text, what_changes, with_numbers,
+    amount_repair,
+    chain_text,
+    choice,
+    likely_repair,
+    likely_sheet,
+    numbered,
+    pairs_text,
+    repair_text,
+    sheet_text,
+    suggested_text,
+    what_changes,
+    with_numbers,
 )
 from repairs import NOTHING, AnyHands, Front, most_left, repairs, repairs_below
 from rules import ENGLISH
@@ -221,7 +232,7 @@ def likely_object(differences, text, told):
 def likely_line(differences, text, wanted):
     """Compares the likely repair in the line of `archive --repairs` with what the second judge says of it in an explanation."""
     said = json.loads(differences.run("archive", "--json", "--repairs", "words", "lexicon", "game").stdout)["likely"]
-    change, right = (wanted.removeprefix("Likely: ").split("\n")[:2] if wanted else (None, None))
+    change, right = wanted.removeprefix("Likely: ").split("\n")[:2] if wanted else (None, None)
     told = {"change": change, "numbers_right": right and right.strip().rsplit(" ", 2)[0]}
     differences.expect(said == told, text, f"archived {said}", f"second judge {told}")
 
@@ -270,10 +281,14 @@ def repaired(differences, listed, text, found):
         return
     alone = with_numbers(events, listed)
     sheets = of_text(noted.encode(), listed)
-    chosen = {"repair": found[0] if found else None, "numbers": alone, "sheet": sheets[0].repair if sheets else None}.get(choice(found, two, alone, events, sheets))
+    chosen = {"repair": found[0] if found else None, "numbers": alone, "sheet": sheets[0].repair if sheets else None}.get(
+        choice(found, two, alone, events, sheets)
+    )
     wanted = "".join(map(line_of, chosen.right())) if chosen else None
     said = done.stdout.decode().rpartition("\nwritten: ")[2] if chosen else ""
-    differences.expect(said == ("" if not chosen else "the sheet with its right numbers\n" if chosen is alone else "the sheet with the first repair\n"), text, said)
+    differences.expect(
+        said == ("" if not chosen else "the sheet with its right numbers\n" if chosen is alone else "the sheet with the first repair\n"), text, said
+    )
     there = (differences.folder / "out").exists()
     made = (differences.folder / "out").read_bytes().decode() if there else ""
     lines = [line.rstrip("\r") + "\n" for line in made.split("\n") if line.startswith(">")]
@@ -378,7 +393,9 @@ def long_ones(differences):
     told = UNTRIED.search(said)
     places = [it.place for it in Front(ENGLISH, events_of(text), {"AT"}, AnyHands).changes()]
     before = told and sum(1 for place in places if place < int(told[3]) - 1)
-    differences.expect(told and (int(told[1]), int(told[2])) == (before, len(places)), "a long record", f"told {told}, there are {before} of {len(places)}")
+    differences.expect(
+        told and (int(told[1]), int(told[2])) == (before, len(places)), "a long record", f"told {told}, there are {before} of {len(places)}"
+    )
     good = (status, answer["untried"], answer["tried"], 0 < len(places) - answer["untried"]) == (1, before, len(places) - (before or 0), True)
     differences.expect(good, "a long record", f"{status}, {answer['tried']} tried, {answer['untried']} not")
     best = answer["repairs"][0]["line"] if answer["repairs"] else None

@@ -28,12 +28,50 @@ from served import answers_to
 
 TILES = list(ENGLISH.tiles.elements())
 WORDS = ["AT", "QI", "qi", "WORD", "xyzzy", "A", "", "A1", "ABCDEFGHIJKLMNO", "ABCDEFGHIJKLMNOP"]
-ODD = [b"", b"{", b"[]", b"null", b"7", b'"judge"', b'{"do": "judge"}', b'{"id": [], "do": "tidy", "game": ""}', b'{"id": 1}', b'{"id": 1, "do": null}', b'{"id": 1, "do": 2}']
-ODD += [b'{"id": "x", "do": "judged", "game": ""}', b'{"id": 2, "do": "tidy", "game": "", "line": 1}', b'{"id": -0, "do": "top", "game": "", "line": -0}', b"\xff", b'{"id": 1e999}']
-ODD += [b'{"id": 1.5, "do": "board", "game": "", "line": 4294967296}', b'{"do": "word", "words": ["AT"], "words": []}', b'{"do": "word", "words": ["AT", 7]}', b'{"do": "top", "game": ""}']
-ODD += [b'{"do": "repair", "game": "", "number": 0}', b'{"do": "repair", "game": "", "number": 101}', b'{"do": "repair", "game": "", "repaired": 1}', b'{"do": "repair", "game": "", "line": 1}']
-ODD += [b'{"do": "compare", "first": ""}', b'{"do": "compare", "second": ""}', b'{"do": "compare", "first": "", "second": "", "game": ""}', b'{"do": "compare", "first": "", "second": 1}']
-ODD += [b'{"do": "annotate"}', b'{"do": "annotate", "game": "", "number": 1.5}', b'{"do": "annotate", "game": "", "likely": true}', b'{"do": "annotate", "game": "", "number": 101}']
+ODD = [
+    b"",
+    b"{",
+    b"[]",
+    b"null",
+    b"7",
+    b'"judge"',
+    b'{"do": "judge"}',
+    b'{"id": [], "do": "tidy", "game": ""}',
+    b'{"id": 1}',
+    b'{"id": 1, "do": null}',
+    b'{"id": 1, "do": 2}',
+]
+ODD += [
+    b'{"id": "x", "do": "judged", "game": ""}',
+    b'{"id": 2, "do": "tidy", "game": "", "line": 1}',
+    b'{"id": -0, "do": "top", "game": "", "line": -0}',
+    b"\xff",
+    b'{"id": 1e999}',
+]
+ODD += [
+    b'{"id": 1.5, "do": "board", "game": "", "line": 4294967296}',
+    b'{"do": "word", "words": ["AT"], "words": []}',
+    b'{"do": "word", "words": ["AT", 7]}',
+    b'{"do": "top", "game": ""}',
+]
+ODD += [
+    b'{"do": "repair", "game": "", "number": 0}',
+    b'{"do": "repair", "game": "", "number": 101}',
+    b'{"do": "repair", "game": "", "repaired": 1}',
+    b'{"do": "repair", "game": "", "line": 1}',
+]
+ODD += [
+    b'{"do": "compare", "first": ""}',
+    b'{"do": "compare", "second": ""}',
+    b'{"do": "compare", "first": "", "second": "", "game": ""}',
+    b'{"do": "compare", "first": "", "second": 1}',
+]
+ODD += [
+    b'{"do": "annotate"}',
+    b'{"do": "annotate", "game": "", "number": 1.5}',
+    b'{"do": "annotate", "game": "", "likely": true}',
+    b'{"do": "annotate", "game": "", "number": 101}',
+]
 
 
 def some_line(game):
@@ -58,7 +96,9 @@ def other_sheet(game):
     elif what < 0.5:
         events = events[:-1]
     else:
-        parts = random.choice([{"score": events[place].score + number}, {"total": events[place].total + number}, {"rack": in_order(random.sample(TILES, 7))}])
+        parts = random.choice(
+            [{"score": events[place].score + number}, {"total": events[place].total + number}, {"rack": in_order(random.sample(TILES, 7))}]
+        )
         events[place] = replace(events[place], **parts)
     return "".join(map(line, events)).encode() if all(max(abs(it.score), abs(it.total)) <= MOST for it in events) else game
 
@@ -79,7 +119,10 @@ def some_request(game):
         settle, best = likely(0.5), likely(0.7)
         return {"do": do, "game": text, "settle": settle, "best": best}, ["judge", "--json", *["--settle"] * settle] if best else None
     if do in ("explain", "page"):
-        told, found = {"do": do, "game": text, "likely": likely(0.3)}, {"explain": ["explain", "--json", *([] if at is None else [str(at)])], "page": ["page"]}[do]
+        told, found = {"do": do, "game": text, "likely": likely(0.3)}, {
+            "explain": ["explain", "--json", *([] if at is None else [str(at)])],
+            "page": ["page"],
+        }[do]
         return told | ({"line": at} if do == "explain" else {}), found if told["likely"] or (do == "explain" and at is not None) else None
     if do == "repair":
         asked, repaired = [] if number is None else ["--number", str(number)], likely(0.5)
@@ -93,7 +136,13 @@ def some_request(game):
     if do == "top":
         rack = random.choice(["AB1", "ABCDEFGH", "é"]) if likely(0.1) else in_either_case(random_rack(TILES)) if at is None or likely(0.5) else None
         named = [] if rack is None else [rack.upper()]  # on the command line a rack is in capitals
-        return {"do": do, "game": text, "line": at, "rack": rack, "number": number}, ["top", "--json", *before, *([] if number is None else ["--number", str(number)]), *named]
+        return {"do": do, "game": text, "line": at, "rack": rack, "number": number}, [
+            "top",
+            "--json",
+            *before,
+            *([] if number is None else ["--number", str(number)]),
+            *named,
+        ]
     if do == "check":
         return {"do": do}, ["check", "--json"]
     if do == "word":
@@ -118,7 +167,14 @@ class Served(Differences):
             lexicon = self.put("lexicon", lexicon[:-1])
         asked = self.some_asked(events)
         end = random.choice([b"\n", b"\r\n", b""]) if asked[-1][0] else b"\n"
-        ran = subprocess.run([self.program, "serve", *by, *pair], cwd=self.folder, input=b"\n".join(it for it, _ in asked) + end, capture_output=True, check=False, timeout=600)
+        ran = subprocess.run(
+            [self.program, "serve", *by, *pair],
+            cwd=self.folder,
+            input=b"\n".join(it for it, _ in asked) + end,
+            capture_output=True,
+            check=False,
+            timeout=600,
+        )
         told = ran.stdout.split(b"\n")
         self.expect(told.pop() == b"", ran.stdout[-100:])
         first = json.loads(told.pop(0))
@@ -127,12 +183,16 @@ class Served(Differences):
             self.seen[f"not ready: {first['verdict']}"] += 1
             self.expect(first == checked and ran.returncode == 3 and not told, first, checked, ran.returncode)
             return
-        self.expect(list(first) == ["ready", "words", "version"] and first["words"] == checked.get("words") and ran.returncode == 0, first, ran.returncode)
+        self.expect(
+            list(first) == ["ready", "words", "version"] and first["words"] == checked.get("words") and ran.returncode == 0, first, ran.returncode
+        )
         self.expect(len(told) == len(asked), len(told), len(asked))
         for (request, command), answer in zip(asked, told):
             self.compare(words, lexicon, request, json.loads(answer), text, answer)
             if command and likely(0.3):
-                self.compare_command(json.loads(request), command, by if command[0] not in ("tidy", "check") else [], pair, json.loads(answer), answer)
+                self.compare_command(
+                    json.loads(request), command, by if command[0] not in ("tidy", "check") else [], pair, json.loads(answer), answer
+                )
 
     def some_asked(self, events):
         """Requests, each with the words of the command line that ask the same, and lines that are none."""

@@ -90,8 +90,10 @@ def real_games(probe, cases, style, share, rules=ENGLISH, turns=(40,)):
             assert not exceeded or told[0] != "dealt", ("a bound is exceeded", told, texts[number])
             (spoilt if number else answers)[told[0] + (", by a bound" if exceeded else "")] += 1
     mean, most = sum(times) / len(times), max(times)
-    print(f"racks {style}, {share} exchanges in 100 turns: {dict(answers)}, {mean:.3f} ms, at most {most:.1f} ms;"
-          f" spoiled {dict(spoilt)}", flush=True)
+    print(
+        f"racks {style}, {share} exchanges in 100 turns: {dict(answers)}, {mean:.3f} ms, at most {most:.1f} ms;" f" spoiled {dict(spoilt)}",
+        flush=True,
+    )
     return answers, mean, most
 
 

@@ -167,13 +167,17 @@ def other_racks(differences, events, listed):
     differences.seen[f"racks of the other sheet: {len(best[0][0])}" if len(best) == 1 else "racks with rivals" if best else "racks of no game"] += 1
     if len(best) == 1:
         taken, made, verdict = best[0]
-        wanted = rack_lines(sheets, places, taken) + verdict.strip() + "\n" + results(sheets, made, "complete" in verdict) + "written: the merged record\n"
+        wanted = (
+            rack_lines(sheets, places, taken) + verdict.strip() + "\n" + results(sheets, made, "complete" in verdict) + "written: the merged record\n"
+        )
         differences.expect(told == wanted and merged == record_of(made), *map(record_of, sheets), told, wanted, merged)
     elif best:
         differences.expect(merged is None and "another choice of the lines would stand as well" in told, *map(record_of, sheets), told)
     else:
         many = 2 ** len(places)
-        differences.expect(f"none of {many} choice{'s' if many > 1 else ''} of the lines is known to be a game\n" in told, *map(record_of, sheets), told)
+        differences.expect(
+            f"none of {many} choice{'s' if many > 1 else ''} of the lines is known to be a game\n" in told, *map(record_of, sheets), told
+        )
 
 
 def case(differences, number):

@@ -15,7 +15,24 @@ from pathlib import Path
 
 import web
 from annotations import annotated
-from answers import NO_GAME, audit_status, audited, boarded, built, checked, converted, error_of, explained, first_fields, judged, lead_of, settled, status_of, topped, words_of
+from answers import (
+    NO_GAME,
+    audit_status,
+    audited,
+    boarded,
+    built,
+    checked,
+    converted,
+    error_of,
+    explained,
+    first_fields,
+    judged,
+    lead_of,
+    settled,
+    status_of,
+    topped,
+    words_of,
+)
 from comparing import suggestion, without_amount, without_lead
 from dealing import Dealer, likely, line, words_in_reach
 from lexicons import GAD2, build, convert
@@ -113,7 +130,11 @@ class Fuzzer:
         words = ["judge", "--settle", *by, self.words, self.lexicon, self.game]
         ran = subprocess.run([self.program, *words], capture_output=True, check=False, timeout=60)
         self.seen[f"judge --settle {ran.returncode}"] += 1
-        if ran.stdout not in ways or ran.returncode != status_of(ran.stdout) or ran.stderr != error_of(words, b"" if ran.stdout == b"unsettled\n" else ran.stdout, self.game):
+        if (
+            ran.stdout not in ways
+            or ran.returncode != status_of(ran.stdout)
+            or ran.stderr != error_of(words, b"" if ran.stdout == b"unsettled\n" else ran.stdout, self.game)
+        ):
             self.differences += 1
             print(*words, "status", ran.returncode, ran.stdout, ran.stderr, "for", ways[:2], self.game.read_bytes(), sep="\n  ")
 
@@ -148,7 +169,11 @@ class Fuzzer:
         ran = subprocess.run([self.program, *words], capture_output=True, check=False, timeout=60)
         self.seen[f"page {ran.returncode}"] += 1
         ways = [NO_GAME] if ways == [b"legal unfinished\n"] else ways
-        good = ran.stdout in {it.split(b"\n")[0] + b"\n" for it in ways} and ran.returncode == status_of(ran.stdout) and ran.stderr == error_of(words, ran.stdout, self.game)
+        good = (
+            ran.stdout in {it.split(b"\n")[0] + b"\n" for it in ways}
+            and ran.returncode == status_of(ran.stdout)
+            and ran.stderr == error_of(words, ran.stdout, self.game)
+        )
         if self.out.exists():
             web.read(self.out.read_bytes())
         if not good or self.out.exists() != (ran.returncode in (0, 1, 2)):
@@ -163,7 +188,11 @@ class Fuzzer:
         ran = subprocess.run([self.program, *words], capture_output=True, check=False, timeout=60)
         self.seen[f"annotate {ran.returncode}"] += 1
         ways = [NO_GAME] if ways == [b"legal unfinished\n"] else ways
-        good = ran.stdout in {it.split(b"\n")[0] + b"\n" for it in ways} and ran.returncode == status_of(ran.stdout) and ran.stderr == error_of(words, ran.stdout, self.game)
+        good = (
+            ran.stdout in {it.split(b"\n")[0] + b"\n" for it in ways}
+            and ran.returncode == status_of(ran.stdout)
+            and ran.stderr == error_of(words, ran.stdout, self.game)
+        )
         told = self.out.read_bytes() if self.out.exists() else None
         wanted = annotated(*inputs, ran.stdout.decode("latin-1").removesuffix("\n"), number, (told or b"").decode("latin-1")) if good else None
         if not good or told != wanted:
@@ -201,7 +230,9 @@ class Fuzzer:
         rack = choose([None, None, "?E", "AEINRST"])
         plays = topped(words, lexicon, game, rack, text, number, before)
         named = ["--before", str(before), "--number", str(number)]
-        self.compare(["top", *by, *named, self.words, self.lexicon, self.game, *([rack] if rack else [])], plays, status_of(plays), name="top --before")
+        self.compare(
+            ["top", *by, *named, self.words, self.lexicon, self.game, *([rack] if rack else [])], plays, status_of(plays), name="top --before"
+        )
 
     def board(self, ruled, game, text):
         """`board`, after the last event and before a line."""

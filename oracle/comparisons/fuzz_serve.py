@@ -16,15 +16,62 @@ from pathlib import Path
 from lexicons import build
 from served import NoRequest, check_members, parsed, request_of
 
-GAMES = ["", ">A: DORWAAE 8E WORD +16 16\n", ">A: AT 8H AT +4 4\n>B: - +0 0\n", "x", ">A: DORWAAE 8E WORD +18 18\n", "\0\n>", "#player1 A Ann\n>A: ? 8H aT +2 2\n"]
-PIECES = [b"\0", b"\xff", b"\xc3", b"[", b"]", b"{", b"}", b'"', b"\\", b",", b":", b"1e999", b"-", b"0", b"99999999999999999999", b"\\u0000", b"\\ud800", b"\\ud83d\\ude00", b"null", b"true"]
-PIECES += [b"\t", b"\r", b" ", b'"do":', b'"id":', b"\xef\xbb\xbf", b"NaN", b"1.5", b"\\n", b"\x7f", b"\x01", b"[" * 200, b"{" * 130, b'{"a":' * 127, b"[" * 127 + b"]" * 127]
+GAMES = [
+    "",
+    ">A: DORWAAE 8E WORD +16 16\n",
+    ">A: AT 8H AT +4 4\n>B: - +0 0\n",
+    "x",
+    ">A: DORWAAE 8E WORD +18 18\n",
+    "\0\n>",
+    "#player1 A Ann\n>A: ? 8H aT +2 2\n",
+]
+PIECES = [
+    b"\0",
+    b"\xff",
+    b"\xc3",
+    b"[",
+    b"]",
+    b"{",
+    b"}",
+    b'"',
+    b"\\",
+    b",",
+    b":",
+    b"1e999",
+    b"-",
+    b"0",
+    b"99999999999999999999",
+    b"\\u0000",
+    b"\\ud800",
+    b"\\ud83d\\ude00",
+    b"null",
+    b"true",
+]
+PIECES += [
+    b"\t",
+    b"\r",
+    b" ",
+    b'"do":',
+    b'"id":',
+    b"\xef\xbb\xbf",
+    b"NaN",
+    b"1.5",
+    b"\\n",
+    b"\x7f",
+    b"\x01",
+    b"[" * 200,
+    b"{" * 130,
+    b'{"a":' * 127,
+    b"[" * 127 + b"]" * 127,
+]
 VALUES = ["", "x", 0, 1, -1, 1.5, 10**30, True, False, None, [], {}, [[]], ["AT"], ["AT", "QI"], "AT", 2**32 - 1, 2**32, 100, 101]
 
 
 def some_request():
     """A request as a client may write it."""
-    do = random.choice(["judge", "explain", "audit", "board", "top", "word", "check", "tidy", "page", "repair", "compare", "annotate", "fill", "next", "judged"])
+    do = random.choice(
+        ["judge", "explain", "audit", "board", "top", "word", "check", "tidy", "page", "repair", "compare", "annotate", "fill", "next", "judged"]
+    )
     asked = {"id": random.choice([1, "a", 2**64 - 1, -(2**63), 1e300, None]), "do": do, "game": random.choice(GAMES)}
     if do == "word":
         asked = {"do": do, "words": random.choice([["AT"], ["at", "QI"], ["A"]])}
@@ -36,10 +83,35 @@ def some_request():
         bare = [*GAMES, ">A: 8E WORD\n", ">A: DORWAAE 8E WORD +18\n>B: -\n", ">A: DORWAAE 8E\n"]
         asked |= {"draft": True, "first": random.choice(bare), "second": random.choice(bare)}
     if do in ("explain", "board", "repair"):
-        asked |= random.choice([{}, {"draft": True}, {"draft": True, "game": random.choice([">A: 8E WORD\n", ">A: DORWAAE 8E\n", ">A: DORWAAE 8E WORD +18\n>B: -\n"])}])
+        asked |= random.choice(
+            [{}, {"draft": True}, {"draft": True, "game": random.choice([">A: 8E WORD\n", ">A: DORWAAE 8E\n", ">A: DORWAAE 8E WORD +18\n>B: -\n"])}]
+        )
     if do in ("fill", "next"):
         asked = {"id": random.choice([1, "a", None]), "do": do, "draft": random.choice([*GAMES, ">A: 8E WORD\n", ">A: DORWAAE 8E\n"])}
-    for key in random.sample(["first", "second", "merged", "repaired", "draft", "filled", "number", "line", "rack", "number", "settle", "best", "corrected", "likely", "words", "id", "do", "game", "other"], random.choice([0, 0, 0, 1, 2])):
+    for key in random.sample(
+        [
+            "first",
+            "second",
+            "merged",
+            "repaired",
+            "draft",
+            "filled",
+            "number",
+            "line",
+            "rack",
+            "number",
+            "settle",
+            "best",
+            "corrected",
+            "likely",
+            "words",
+            "id",
+            "do",
+            "game",
+            "other",
+        ],
+        random.choice([0, 0, 0, 1, 2]),
+    ):
         asked[key] = random.choice(VALUES)
     return json.dumps(asked, ensure_ascii=random.random() < 0.5).encode()
 
@@ -47,7 +119,16 @@ def some_request():
 def damaged(line):
     """A line with something else in some place."""
     at, end = sorted(random.randint(0, len(line)) for _ in range(2))
-    return random.choice([line[:at], line[at:], line[:at] + line[end:], line[:at] + random.choice(PIECES) + line[at:], line[:at] + random.choice(PIECES) + line[end:], line + line])
+    return random.choice(
+        [
+            line[:at],
+            line[at:],
+            line[:at] + line[end:],
+            line[:at] + random.choice(PIECES) + line[at:],
+            line[:at] + random.choice(PIECES) + line[end:],
+            line + line,
+        ]
+    )
 
 
 def some_line():
@@ -88,7 +169,10 @@ def main():
         with subprocess.Popen([program, "serve", "words", "lexicon"], cwd=folder, stdin=subprocess.PIPE, stdout=subprocess.PIPE) as ran:
             threading.Thread(target=lambda: (ran.stdin.write(b"\n".join(lines)), ran.stdin.close())).start()
             told = ran.stdout.read().split(b"\n")
-    assert told.pop() == b"" and json.loads(told.pop(0)) == {"ready": True, "words": 2, "version": "1.2.0"} and ran.returncode == 0, (told[-1], ran.returncode)
+    assert told.pop() == b"" and json.loads(told.pop(0)) == {"ready": True, "words": 2, "version": "1.2.0"} and ran.returncode == 0, (
+        told[-1],
+        ran.returncode,
+    )
     if len(told) != many:
         print(f"{len(told)} answers to {many} lines")
         differences += 1

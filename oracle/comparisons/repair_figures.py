@@ -422,7 +422,9 @@ def main():
                 whole[it] += figures
             print(row(name, seen), flush=True)
         print(row("all", whole))
-        seen = of_sheets(program, Path(folder), f"{seed} unfinished", 4 * records, lambda stated: some_sheet(SLIPS[choose(list(SLIPS))], TURNS, stated))
+        seen = of_sheets(
+            program, Path(folder), f"{seed} unfinished", 4 * records, lambda stated: some_sheet(SLIPS[choose(list(SLIPS))], TURNS, stated)
+        )
         print(row("any of these, in a game that stops in the middle", seen), flush=True)
         seen = of_sheets(program, Path(folder), f"{seed} two slips", 4 * records, lambda stated: with_two_slips(None, stated))
         print(row("two slips of any kinds", seen))

@@ -69,15 +69,10 @@ TWO = [
 ]
 
 # Records with three slips: the rules, the words, the record, and what each change of the chain puts there.
-CHAINS = [
-    (ENGLISH, WORDS, ">A: AADEORW E8 WORD +16 16\n>B: AT 9A AT +9 9\n>A: E 1F E.. +5 21\n", [WORD, AT, EAT]),
-]
+CHAINS = [(ENGLISH, WORDS, ">A: AADEORW E8 WORD +16 16\n>B: AT 9A AT +9 9\n>A: E 1F E.. +5 21\n", [WORD, AT, EAT])]
 
 # Records with one slip and with more unlisted words than come from slips: no pair is looked for.
-PHONIES = [
-    (ENGLISH, "WORD AT", TWICE_AT + EAT),
-    (ENGLISH, "", TWICE_AT + EAT),
-]
+PHONIES = [(ENGLISH, "WORD AT", TWICE_AT + EAT), (ENGLISH, "", TWICE_AT + EAT)]
 
 # Repairs that are on one line: the rules, the words, the record, how many repairs the first line has.
 LINES = [
@@ -97,22 +92,36 @@ OPEN_ALONE = "with only the numbers corrected it may be a game: no deal was foun
 # Such a game with one slip: the record, and all that is said of it. No change is known to make it a game, though some may.
 OPEN = [
     # The J or the X is a blank.
-    (SHORT_OF, OPEN_ALONE + "  15 of 16 numbers right\n  line 3: score 16, should be 32\n"
-     "none of 871 single changes is known to leave fewer errors\nwith 2 more changes every event stands, but no deal was found\n"),
+    (
+        SHORT_OF,
+        OPEN_ALONE + "  15 of 16 numbers right\n  line 3: score 16, should be 32\n"
+        "none of 871 single changes is known to leave fewer errors\nwith 2 more changes every event stands, but no deal was found\n",
+    ),
     # The last line is one too many.
-    (NOT_DEALT + ">A: - +0 33\n", OPEN_ALONE + "  17 of 18 numbers right\n  line 9: sum 33, should be 32\n"
-     "none of 939 single changes is known to leave fewer errors\nwith 1 more change every event stands, but no deal was found\n"),
-    (NOT_DEALT + ">B: -- +0 0\n", "none of 876 single changes is known to make it a game\nwith 1 more change every event stands, but no deal was found\n"),
+    (
+        NOT_DEALT + ">A: - +0 33\n",
+        OPEN_ALONE + "  17 of 18 numbers right\n  line 9: sum 33, should be 32\n"
+        "none of 939 single changes is known to leave fewer errors\nwith 1 more change every event stands, but no deal was found\n",
+    ),
+    (
+        NOT_DEALT + ">B: -- +0 0\n",
+        "none of 876 single changes is known to make it a game\nwith 1 more change every event stands, but no deal was found\n",
+    ),
     # No change makes up for a total that is 5 too high, since no play was challenged.
-    (NOT_DEALT.replace("+32 32", "+32 37").replace("+0 32", "+0 37"), OPEN_ALONE + "  15 of 16 numbers right\n  line 3: sum 37, should be 32\n"
-     "none of 871 single changes leaves fewer errors\n"),
+    (
+        NOT_DEALT.replace("+32 32", "+32 37").replace("+0 32", "+0 37"),
+        OPEN_ALONE + "  15 of 16 numbers right\n  line 3: sum 37, should be 32\n" "none of 871 single changes leaves fewer errors\n",
+    ),
     # The > of a line is missing.
-    (NOT_DEALT.replace(">A: - +0 32", "A: - +0 32", 1), "line 5: > is missing (no deal was found)\n  16 of 16 numbers right\n"
-     "before line 6: A exchanges 1 tile (or with 2, 3, 4, 5, 6, 7)\n  14 of 14 numbers right\n"
-     "line 4: it should not be there\n  12 of 12 numbers right\n"
-     "all lines from line 6 on have the name of the other player (no deal was found)\n  12 of 14 numbers right\n"
-     "  line 6: sum 0, should be 32\n  line 7: sum 32, should be 0\n"
-     "with 1 more change every event stands, but no deal was found\n"),
+    (
+        NOT_DEALT.replace(">A: - +0 32", "A: - +0 32", 1),
+        "line 5: > is missing (no deal was found)\n  16 of 16 numbers right\n"
+        "before line 6: A exchanges 1 tile (or with 2, 3, 4, 5, 6, 7)\n  14 of 14 numbers right\n"
+        "line 4: it should not be there\n  12 of 12 numbers right\n"
+        "all lines from line 6 on have the name of the other player (no deal was found)\n  12 of 14 numbers right\n"
+        "  line 6: sum 0, should be 32\n  line 7: sum 32, should be 0\n"
+        "with 1 more change every event stands, but no deal was found\n",
+    ),
 ]
 
 

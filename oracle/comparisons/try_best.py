@@ -30,46 +30,20 @@ REPORTS = [
     ("RETAINS", ">A: AEINRST - +0 0\n", LEFT + "1 A - +0 0 best 8B RETAINS 66\n"),
     ("QI", ">A: AEOUUTT - +0 0\n", LEFT + "1 A - +0 0 best none\n"),
     ("WORD AT RA", ON_WORD, LEFT + TOLD + " unlisted DT\n"),
-    (
-        "WORD AT RA",
-        ON_WORD + ">B: AT -- -9 0\n>A: AT 9G AT +9 25\n",
-        LEFT + TOLD + "\n3 B -- -9 0\n4 A 9G AT +9 25 best - unlisted DT\n",
-    ),
+    ("WORD AT RA", ON_WORD + ">B: AT -- -9 0\n>A: AT 9G AT +9 25\n", LEFT + TOLD + "\n3 B -- -9 0\n4 A 9G AT +9 25 best - unlisted DT\n"),
     ("WORD AT RA DT", ON_WORD + ">B: AT -- -9 0\n>A: AT 9G AT +9 25\n", "illegal line 3: WithdrawnValid\n"),
     ("WORD AT RA", ON_WORD + ">B: AT (challenge) +5 14\n", LEFT + TOLD + " unlisted DT\n3 B (challenge) +5 14\n"),
     (
         "RETAINS",
         PASSES + ">A: AEINRST (AEINRST) -7 -7\n>B: AEINRST (AEINRST) -7 -7\n",
-        DONE
-        + "".join(f"{k + 1} {'AB'[k % 2]} - +0 0 best -\n" for k in range(6))
-        + "7 A (AEINRST) -7 -7\n8 B (AEINRST) -7 -7\n",
+        DONE + "".join(f"{k + 1} {'AB'[k % 2]} - +0 0 best -\n" for k in range(6)) + "7 A (AEINRST) -7 -7\n8 B (AEINRST) -7 -7\n",
     ),
-    (
-        "AT",
-        ">A: AEI -5 +0 0\n>B: QU - +0 0\n>A: SX - +0 0\n",
-        LEFT + "1 A -5 +0 0 best -\n2 B - +0 0 best -\n3 A - +0 0 best -\n",
-    ),
-    (
-        "WORD AT RA EAT OE",
-        ON_WORD + ">A: E 9F E.. +5 21\n",
-        LEFT + TOLD + " unlisted DT\n3 A 9F E.. +5 21 best -\n",
-    ),
-    (
-        "WORD AT RA EAT OE",
-        ON_WORD + ">A: E F8 .E +5 21\n",
-        LEFT + TOLD + " unlisted DT\n3 A F8 .E +5 21 best -\n",
-    ),
-    (
-        "WORD AT RA EAT OE",
-        ON_WORD + ">A: E 9F E(AT) +5 21\n",
-        LEFT + TOLD + " unlisted DT\n3 A 9F EAT +5 21 best -\n",
-    ),
+    ("AT", ">A: AEI -5 +0 0\n>B: QU - +0 0\n>A: SX - +0 0\n", LEFT + "1 A -5 +0 0 best -\n2 B - +0 0 best -\n3 A - +0 0 best -\n"),
+    ("WORD AT RA EAT OE", ON_WORD + ">A: E 9F E.. +5 21\n", LEFT + TOLD + " unlisted DT\n3 A 9F E.. +5 21 best -\n"),
+    ("WORD AT RA EAT OE", ON_WORD + ">A: E F8 .E +5 21\n", LEFT + TOLD + " unlisted DT\n3 A F8 .E +5 21 best -\n"),
+    ("WORD AT RA EAT OE", ON_WORD + ">A: E 9F E(AT) +5 21\n", LEFT + TOLD + " unlisted DT\n3 A 9F EAT +5 21 best -\n"),
     ("AT", ">A: ABCDEF? - +0 0\n", LEFT + "1 A - +0 0 best 8G At 2\n"),
-    (
-        "RETAINS",
-        ">A: AEINRST - +0 0\n>B: ADEORTW - +0 0\n",
-        LEFT + "1 A - +0 0 best 8B RETAINS 66\n2 B - +0 0 best none\n",
-    ),
+    ("RETAINS", ">A: AEINRST - +0 0\n>B: ADEORTW - +0 0\n", LEFT + "1 A - +0 0 best 8B RETAINS 66\n2 B - +0 0 best none\n"),
     # An exchange of either kind is a turn, and so is a play that is taken back: its rack is judged on the board before it.
     ("AT", ">A: AABCDDT -AAB +0 0\n>B: AAEEFFT -2 +0 0\n", LEFT + "1 A -AAB +0 0 best 8G AT 4\n2 B -2 +0 0 best 8G AT 4\n"),
     ("AT", ">A: AABBCCT 8H BAT +10 10\n>A: -- -10 0\n", LEFT + "1 A 8H BAT +10 10 best 8G AT 4\n2 A -- -10 0\n"),
@@ -77,11 +51,7 @@ REPORTS = [
 
 # Reports by a set of fourteen tiles, in the same way: the first player goes out, and the pass after that is no turn.
 SMALL_REPORTS = [
-    (
-        "RETAINS",
-        ">A: AEINRST 8D RETAINS +66 66\n>A: (ADEORTW) +22 88\n",
-        DONE + "1 A 8D RETAINS +66 66 best 8B RETAINS 66\n2 A (ADEORTW) +22 88\n",
-    ),
+    ("RETAINS", ">A: AEINRST 8D RETAINS +66 66\n>A: (ADEORTW) +22 88\n", DONE + "1 A 8D RETAINS +66 66 best 8B RETAINS 66\n2 A (ADEORTW) +22 88\n"),
     (
         "RETAINS",
         ">A: AEINRST 8D RETAINS +66 66\n>B: ADEORTW - +0 0\n>A: (ADEORTW) +22 88\n>A: (time) -5 83\n",

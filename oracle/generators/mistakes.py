@@ -14,7 +14,17 @@ from ruling import random_rules
 choose = random.choice
 MOST = 999_999
 FRONTS = [b"", b"", b"=", b"<", b".", b" >", b"\t>", b"\xc2\xa0>", b"\xa0>", b"1. >", b">>", b"  ", b"\xef\xbb\xbf>", b"_"]
-REMARKS = [b"#note\n8H AT 4 4\n", b"#note x\n", b"8H AT 4 4\n", b"A 8H 4 4\n", b"B (time) -10 20 x\n", b"A - B 350 401\n", b"A: well played\n", b"A: 8H AT 4\n", b"\n"]
+REMARKS = [
+    b"#note\n8H AT 4 4\n",
+    b"#note x\n",
+    b"8H AT 4 4\n",
+    b"A 8H 4 4\n",
+    b"B (time) -10 20 x\n",
+    b"A - B 350 401\n",
+    b"A: well played\n",
+    b"A: 8H AT 4\n",
+    b"\n",
+]
 
 
 def moved(event):

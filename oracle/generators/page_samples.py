@@ -37,6 +37,8 @@ def make_pages(program, folder, more=None):
     for name, game in games.items():
         (folder / f"{name}.gcg").write_bytes(game)
     names = [f"{name}.gcg" for name in games]
-    ran = subprocess.run([program, "archive", "--pages", ".", "words.txt", "words.gad", *names, "nowhere.gcg"], cwd=folder, capture_output=True, check=False)
+    ran = subprocess.run(
+        [program, "archive", "--pages", ".", "words.txt", "words.gad", *names, "nowhere.gcg"], cwd=folder, capture_output=True, check=False
+    )
     assert ran.returncode == 4, ran
     return [name for name in [*games, "index"] if (folder / f"{name}.html").exists()]

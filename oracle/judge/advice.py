@@ -79,7 +79,12 @@ def no_game(name, game):
 def advice(command, output, name, game, rack=None):
     """What standard error gets in addition to what a command printed of a game; a rack is that of the command line. Which lines are not read is said
     of each record that was read."""
-    if command not in RECORD or output.startswith((b"bad rules", b"bad word list", b"bad lexicon")) or rack is not None and output.startswith(b"bad rack"):
+    if (
+        command not in RECORD
+        or output.startswith((b"bad rules", b"bad word list", b"bad lexicon"))
+        or rack is not None
+        and output.startswith(b"bad rack")
+    ):
         return b""
     told = b""
     if output.startswith(b"bad record"):

@@ -111,7 +111,9 @@ def lead(verdict, events, right, nicks="AB"):
     if verdict.startswith("illegal"):
         return []
     verb = "won" if verdict == "legal complete" else "is ahead"
-    said = [f"{nicks[player] or 'the other player'} {verb} by {by}" if by else "both have the same total" for player, by in map(ahead_of, (right, events))]
+    said = [
+        f"{nicks[player] or 'the other player'} {verb} by {by}" if by else "both have the same total" for player, by in map(ahead_of, (right, events))
+    ]
     return [said[0] if said[0] == said[1] else "; by the sheet ".join(said)]
 
 

@@ -33,7 +33,15 @@ def square_object(square, after, new, rules):
     worth, premium = rules.points.get(after[square], 0), rules.premiums.get(square) if square in new else None
     times = told.FACTORS[premium] if premium in ("DL", "TL") else 1
     name = PREMIUMS.get(premium)
-    return {"square": named(square), "tile": after[square], "new": square in new, "points": worth, "premium": name, "factor": times, "adds": worth * times}
+    return {
+        "square": named(square),
+        "tile": after[square],
+        "new": square in new,
+        "points": worth,
+        "premium": name,
+        "factor": times,
+        "adds": worth * times,
+    }
 
 
 def word_object(run, after, new, listed, rules):
@@ -112,7 +120,9 @@ def slip_facts(scene, is_wrong):
     for kind, played, has in slips.missing:
         facts.append(fact("NotOnRack", tile=kind, rack=rack, number=played, limit=has))
     for it in slips.readings:
-        facts.append(fact("Misread", square=named(it.square), letter=it.letter, read=it.read, score=it.score, written=scene.event.score, words=it.words))
+        facts.append(
+            fact("Misread", square=named(it.square), letter=it.letter, read=it.read, score=it.score, written=scene.event.score, words=it.words)
+        )
     for it in slips.blanks:
         facts.append(fact("AsBlank", square=named(it.square), letter=it.letter, read=it.read, score=it.score))
     return facts
@@ -276,7 +286,10 @@ def rack_facts(events, listed, rules, now, lines, text, dealt):
         holder = places[now].holder
         must = told.must_have(places, holder, now)
         shown = list(rack_lines(places, now, lines, holder))
-        return [*left_facts(places, now, lines), fact(name, player=holder + 1, rack=told.tiles_text(must), number=must.total(), limit=places[now].racks[holder], lines=shown)]
+        return [
+            *left_facts(places, now, lines),
+            fact(name, player=holder + 1, rack=told.tiles_text(must), number=must.total(), limit=places[now].racks[holder], lines=shown),
+        ]
     if name == "TilesShort":
         laid = sum(it.used[kind] for it in places[:now] if it.stands)
         racks = [told.must_have(places, player, now)[kind] for player in (0, 1)]

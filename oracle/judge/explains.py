@@ -282,7 +282,9 @@ def bad_bonus(scene):
 def due_text(what, player, nicks):
     """Which last rack is missing."""
     if what == "Out":
-        return f"{nicks[player]} is out, so there are no more turns. What is missing is {nicks[1 - player]}'s last rack, on a line of {nicks[player]}.\n"
+        return (
+            f"{nicks[player]} is out, so there are no more turns. What is missing is {nicks[1 - player]}'s last rack, on a line of {nicks[player]}.\n"
+        )
     return f"{nicks[player]} has lost the points of a rack, so there are no more turns. What is missing is {nicks[1 - player]}'s last rack.\n"
 
 
@@ -406,7 +408,9 @@ def rack_too_big(places, now, lines, nicks):
     holder = places[now].holder
     must, size = must_have(places, holder, now), places[now].racks[holder]
     told = left_text(places, now, lines)
-    told += [f"{nicks[holder]} has {count(size, 'tile')} here, but by the lines below the rack would have to hold {must.total()}: {tiles_text(must)}."]
+    told += [
+        f"{nicks[holder]} has {count(size, 'tile')} here, but by the lines below the rack would have to hold {must.total()}: {tiles_text(must)}."
+    ]
     for k in range(epoch(places, holder, now), now + 1):
         it = places[k]
         if it.holder == holder and it.need.total():
@@ -450,7 +454,9 @@ def no_deal(places, now, lines, nicks, tiles, printed):
     for k, it in enumerate(places[: now + 1]):
         if it.event.kind in ("exchange", "unknown"):
             told.append(f"  line {lines[k]}: {nicks[it.event.player]} exchanges {count(it.event.size, 'tile')}")
-    return told + ([f"Up to line {lines[now - 1]} a deal of the tiles gives the players every rack that is shown."] if "Up to line " in printed and now else [])
+    return told + (
+        [f"Up to line {lines[now - 1]} a deal of the tiles gives the players every rack that is shown."] if "Up to line " in printed and now else []
+    )
 
 
 def rack_text(events, listed, rules, now, lines, nicks, fault, printed):
@@ -589,7 +595,9 @@ def notes_text(events, lines, listed, rules, nicks):
     notes = notes_of(events, lines, listed, rules)
     told = "" if notes.plays else "Each word of every play that stands is in the word list.\n"
     for line, player, words in notes.plays:
-        told += f"Line {line}: {nicks[player]}'s play stands with {in_words(words)}, which {'is' if len(words) == 1 else 'are'} not in the word list.\n"
+        told += (
+            f"Line {line}: {nicks[player]}'s play stands with {in_words(words)}, which {'is' if len(words) == 1 else 'are'} not in the word list.\n"
+        )
     told += OTHER_LIST if notes.is_other_list() else ""
     told += racks_text(notes)
     return told + (due_text(*notes.due, nicks) if notes.due else "")

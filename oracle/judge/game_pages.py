@@ -231,7 +231,11 @@ def expected(verdict, players, events, lines, listed, rules, words, rules_text=N
     illegal = re.match("illegal line ([0-9]+):", verdict)
     place_at = next(k for k, line in enumerate(lines) if line >= int(illegal[1])) if illegal else None
     nicks = [player[0].decode("latin-1") if player else "the other player" for player in players]
-    reason = whole_text(verdict, events, lines, listed, rules, nicks) if place_at is None else judged_text(events, lines, place_at, listed, rules, nicks, verdict, printed)
+    reason = (
+        whole_text(verdict, events, lines, listed, rules, nicks)
+        if place_at is None
+        else judged_text(events, lines, place_at, listed, rules, nicks, verdict, printed)
+    )
     reason = unread_text(game) + time_racks(game) + reason
     names, shown = [name_of(player) for player in players], [player[0].decode(errors="replace") if player else "" for player in players]
     totals = [next((it.total for it in reversed(events) if it.player == seat), 0) for seat in (0, 1)]
@@ -250,9 +254,14 @@ def expected(verdict, players, events, lines, listed, rules, words, rules_text=N
         at = (lines[place_at], f"Line {lines[place_at]}: {shown[event.player]} {happened(events, place_at)[0]} {signed(event.score)} {event.total}")
     return {
         "title": " and ".join(there),
-        "h1": f"{names[0]} {totals[0]} \u2013 {totals[1]} {names[1]}" if players[0] and players[1] else f"{names[0]} {totals[0]}" if players[0] else f" \u2013 {totals[1]} {names[1]}",
+        "h1": f"{names[0]} {totals[0]} \u2013 {totals[1]} {names[1]}"
+        if players[0] and players[1]
+        else f"{names[0]} {totals[0]}"
+        if players[0]
+        else f" \u2013 {totals[1]} {names[1]}",
         "result": result_text(verdict, names, totals),
-        "own": [(OWN[key], text_of(own[key])) for key in ("title", "event", "description", "lexicon") if key in own] + [("Note", text_of(text)) for before, text in notes if before == 0],
+        "own": [(OWN[key], text_of(own[key])) for key in ("title", "event", "description", "lexicon") if key in own]
+        + [("Note", text_of(text)) for before, text in notes if before == 0],
         "class": verdict.split(" ")[0],
         "verdict": verdict,
         "at": at,
@@ -333,7 +342,12 @@ def row_read(row):
 def rows_read(table):
     """The rows of the sheet, and its notes with the number of rows before each."""
     heads = [it.text() for it in table.first("thead").all("th")]
-    assert heads[:8] == HEADS and heads[8:] in (["Board"], ["Not in the list", "Board"], ["Should be", "Board"], ["Not in the list", "Should be", "Board"])
+    assert heads[:8] == HEADS and heads[8:] in (
+        ["Board"],
+        ["Not in the list", "Board"],
+        ["Should be", "Board"],
+        ["Not in the list", "Should be", "Board"],
+    )
     found, notes = [], []
     for row in table.first("tbody").children():
         if row.kinds() == ["note"]:

@@ -120,7 +120,10 @@ def answers_of(events, listed, rules):
         if event.kind == "play":
             (row, column), (down, right) = event.at, event.direction
             squares = [(row + down * k, column + right * k) for k in range(len(event.word))]
-            answer |= {"word": "".join(game.board[square] for square in squares).upper(), "tiles": "".join(game.latest["new"][s] for s in sorted(game.latest["new"]))}
+            answer |= {
+                "word": "".join(game.board[square] for square in squares).upper(),
+                "tiles": "".join(game.latest["new"][s] for s in sorted(game.latest["new"])),
+            }
         elif taken:
             answer["tiles"] = "".join(taken[square] for square in sorted(taken))
         yield answer
@@ -135,7 +138,8 @@ def game_objects(listed, players, events, rules, lines, verdicts):
         told = [said | answer for said, answer in zip(told, answers_of(events, listed, rules))]
     left = [sum(max(0, it["best"]["more"]) for it in told if it["best"] and it["player"] == number) for number in (1, 2)]
     names = [
-        {"nick": text_or_none(nicks[k]), "name": text_or_none(players[k][1] if players[k] else b""), "left": left[k] if allowed else None} for k in range(2)
+        {"nick": text_or_none(nicks[k]), "name": text_or_none(players[k][1] if players[k] else b""), "left": left[k] if allowed else None}
+        for k in range(2)
     ]
     return [verdict_of(verdict) | {"players": names, "events": told} for verdict in verdicts]
 
@@ -197,7 +201,10 @@ def audited_objects(words, lexicon, game, text=None):
         both = [player or (b"", b"") for player in (players[0], players[1])]
         names = [{"nick": text_or_none(nick), "name": text_or_none(name)} for nick, name in both]
         told = list(wrong_objects(events, right, stop, lines_of(game), [nick for nick, _ in both]))
-        return [audit_verdict(verdict) | {"players": names, "wrong": told} | ahead_keys(verdict, events, right) | {"amount": None} | unread_in(game) for verdict in said]
+        return [
+            audit_verdict(verdict) | {"players": names, "wrong": told} | ahead_keys(verdict, events, right) | {"amount": None} | unread_in(game)
+            for verdict in said
+        ]
 
     answer = answered(words, lexicon, game, text, objects)
     return answer if isinstance(answer, list) else [refused(answer)]
@@ -209,7 +216,9 @@ def explained_objects(words, lexicon, game, asked=None, text=None):
     def objects(listed, players, events, rules):
         if not events:
             return [head("no game") | unread_in(game)]
-        verdicts = [told_of(report.split("\n")[0] + "\n", game, players).decode().removesuffix("\n") for report in settled_ways(events, listed, rules)]
+        verdicts = [
+            told_of(report.split("\n")[0] + "\n", game, players).decode().removesuffix("\n") for report in settled_ways(events, listed, rules)
+        ]
         ways = [(verdict, dealt) for verdict in verdicts for dealt in ((False, True) if verdict.endswith(": NoDeal") else (False,))]
         keys = [explained_keys(verdict, game, events, lines_of(game), listed, rules, asked, dealt) for verdict, dealt in ways]
         return [head("bad line") if it is None else verdict_of(verdict) | it | unread_in(game) for (verdict, _), it in zip(ways, keys)]
@@ -261,13 +270,19 @@ def boarded_object(game, before=None, text=None):
     there, off = (events[end] if end < len(events) else None), off_board(board, rules)
     line = lines[end] if there else None
     names = [player or (b"", b"") for player in (players[0], players[1])]
-    return head("ok", line if fault else None, {"name": fault} if fault else None) | {
-        "before": line,
-        "rows": ["".join(square_text(board, rules, (row, column)) for column in range(SIDE)) for row in range(SIDE)],
-        "players": [{"nick": text_or_none(it[0]), "name": text_or_none(it[1]), "total": last_total(events[:end], k)} for k, it in enumerate(names)],
-        "rack": (sorted_tiles(there.rack) or None) if there else None,
-        "off_board": {"number": sum(off.values()), "kinds": [{"tile": kind, "number": off[kind]} for kind in KINDS]},
-    } | unread_in(game)
+    return (
+        head("ok", line if fault else None, {"name": fault} if fault else None)
+        | {
+            "before": line,
+            "rows": ["".join(square_text(board, rules, (row, column)) for column in range(SIDE)) for row in range(SIDE)],
+            "players": [
+                {"nick": text_or_none(it[0]), "name": text_or_none(it[1]), "total": last_total(events[:end], k)} for k, it in enumerate(names)
+            ],
+            "rack": (sorted_tiles(there.rack) or None) if there else None,
+            "off_board": {"number": sum(off.values()), "kinds": [{"tile": kind, "number": off[kind]} for kind in KINDS]},
+        }
+        | unread_in(game)
+    )
 
 
 def checked_object(words, lexicon):

@@ -82,7 +82,9 @@ def spelling_name(weight, written, right):
     if len(written) == len(right):
         places = [k for k, symbol in enumerate(written) if symbol != right[k]]
         if len(places) > 1:
-            is_twisted = len(places) == 2 and places[1] == places[0] + 1 and written[places[0]] + written[places[1]] == right[places[1]] + right[places[0]]
+            is_twisted = (
+                len(places) == 2 and places[1] == places[0] + 1 and written[places[0]] + written[places[1]] == right[places[1]] + right[places[0]]
+            )
             return "symbols interchanged" if is_twisted else "dots too many or too few"
         one, other = written[places[0]], right[places[0]]
         if one == "." or other == ".":
@@ -233,7 +235,11 @@ def sheet_object(sheet, nicks):
         name, changed = next(names for said, names in RUNNING.items() if said in sheet.said)
         if " from line " in sheet.said:
             first = int(sheet.said.split(" from line ")[1].split(" ")[0])
-    there = [(line, right) for (line, _), right in zip(sheet.own, sheet.repair.right()) if (changed(right) and line >= first if changed else line == sheet.line)]
+    there = [
+        (line, right)
+        for (line, _), right in zip(sheet.own, sheet.repair.right())
+        if (changed(right) and line >= first if changed else line == sheet.line)
+    ]
     return {
         "slip": name,
         "line": there[0][0] if there else 0,
@@ -309,7 +315,9 @@ def repaired_objects(words, lexicon, game, text=None, number=10, most_events=MOS
     def answers(listed, players, events, rules):
         if not events:
             return [Repaired(head("no game") | unread_in(game))]
-        verdicts = [told_of(report.split("\n")[0] + "\n", game, players).decode().removesuffix("\n") for report in settled_ways(events, listed, rules)]
+        verdicts = [
+            told_of(report.split("\n")[0] + "\n", game, players).decode().removesuffix("\n") for report in settled_ways(events, listed, rules)
+        ]
         told, faulty = [], None
         if any(it.startswith("illegal") for it in verdicts) and len(events) <= most_events:
             faulty = faulty_keys(game, events, listed, rules, nicks_of(players), number)

@@ -29,9 +29,7 @@ class Rules:
         return sum(self.points.get(tile, 0) for tile in tiles)
 
 
-COUNTS = Counter(
-    dict(zip(KINDS, [9, 2, 2, 4, 12, 2, 3, 2, 9, 1, 1, 4, 2, 6, 8, 2, 1, 6, 4, 6, 4, 2, 2, 1, 2, 1, 2]))
-)
+COUNTS = Counter(dict(zip(KINDS, [9, 2, 2, 4, 12, 2, 3, 2, 9, 1, 1, 4, 2, 6, 8, 2, 1, 6, 4, 6, 4, 2, 2, 1, 2, 1, 2])))
 POINTS = {
     letter: points
     for letters, points in [("AEILNORSTU", 1), ("DG", 2), ("BCMP", 3), ("FHVWY", 4), ("K", 5), ("JX", 8), ("QZ", 10)]
@@ -46,11 +44,7 @@ ROWS = {
     "DL": [((1, 15), "DL"), ((3, 13), "GI"), ((4, 12), "AHO"), ((7, 9), "CGIM"), ((8,), "DL")],
 }
 PREMIUMS = {
-    (row - 1, ord(column) - ord("A")): premium
-    for premium, squares in ROWS.items()
-    for rows, columns in squares
-    for row in rows
-    for column in columns
+    (row - 1, ord(column) - ord("A")): premium for premium, squares in ROWS.items() for rows, columns in squares for row in rows for column in columns
 }
 
 ENGLISH = Rules(COUNTS, POINTS, PREMIUMS)

@@ -113,7 +113,9 @@ def check_members(id, do, said):
     texts, flags = [*TEXTS, *["draft"] * (do in DRAFTS)], [*FLAGS, *["draft"] * (do not in DRAFTS)]
     good = all(isinstance(said[key], str) for key in texts if key in said)
     good &= all(isinstance(said[key], bool) for key in flags if key in said)
-    good &= all(isinstance(said[key], int) and is_number(said[key]) and least <= said[key] <= most for key, (least, most) in numbers.items() if key in said)
+    good &= all(
+        isinstance(said[key], int) and is_number(said[key]) and least <= said[key] <= most for key, (least, most) in numbers.items() if key in said
+    )
     good &= all(key in said for key in NEEDED.get(do, ("game",)))
     if do == "word":
         good = good and isinstance(said["words"], list) and bool(said["words"]) and all(isinstance(it, str) for it in said["words"])

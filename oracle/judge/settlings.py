@@ -80,11 +80,7 @@ def shows_none(places, tiles, kinds):
         return False
     chosen, others = split(tiles, kinds)
     sizes = places[0].racks
-    reached = {
-        (first, second)
-        for first in ways(sizes[0], chosen, others)
-        for second in ways(sizes[1], chosen - first, others - (sizes[0] - first))
-    }
+    reached = {(first, second) for first in ways(sizes[0], chosen, others) for second in ways(sizes[1], chosen - first, others - (sizes[0] - first))}
     for number, place in enumerate(places):
         if place.event.kind == "withdraw":
             continue

@@ -20,7 +20,12 @@ OFF = {
     (-1, 0): "are one row too far down",
     (1, 0): "are one row too far up",
 }
-IN_FRONT = {"blank": "a blank is before its >", "before": "something is before its >", "sign": "another sign is in place of its >", "none": "> is missing"}
+IN_FRONT = {
+    "blank": "a blank is before its >",
+    "before": "something is before its >",
+    "sign": "another sign is in place of its >",
+    "none": "> is missing",
+}
 
 
 @dataclass

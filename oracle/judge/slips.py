@@ -124,7 +124,18 @@ def fits(scene, right):
 
 
 def said(event):
-    return (event.player, event.kind, event.score, event.total, event.at, event.direction, event.word, Counter(event.tiles), event.size, Counter(event.rack))
+    return (
+        event.player,
+        event.kind,
+        event.score,
+        event.total,
+        event.at,
+        event.direction,
+        event.word,
+        Counter(event.tiles),
+        event.size,
+        Counter(event.rack),
+    )
 
 
 def missing_line(scene):

@@ -5,13 +5,7 @@ import re
 from records import BLANKS, Fault, code, number, position, read
 
 MOST_NAMED = 10
-NAMES = {
-    "blank": "blank before >",
-    "before": "something before >",
-    "sign": "another sign than >",
-    "none": "no >",
-    "parts": "parts of an event",
-}
+NAMES = {"blank": "blank before >", "before": "something before >", "sign": "another sign than >", "none": "no >", "parts": "parts of an event"}
 SENTENCES = {
     "blank": "it has a blank before its >",
     "before": "it has something before its >",

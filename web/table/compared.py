@@ -60,7 +60,9 @@ def comparison_of(answer: dict[str, Any], unread: list[tuple[str, list[str]]]) -
         many = "sheets have" if len(unread) > 1 else "sheet has"
         said = [f"{sentence(name)} sheet: {reason}" for name, reasons in unread for reason in reasons]
         return Comparison(f"The {which} {many} no game that can be read.", "illegal", [], said, None)
-    headline, kind = {"agree": ("The sheets agree.", "legal"), "unsettled": ("It is open which sheet is right.", "unsettled")}.get(verdict, ("The sheets differ.", "illegal"))
+    headline, kind = {"agree": ("The sheets agree.", "legal"), "unsettled": ("It is open which sheet is right.", "unsettled")}.get(
+        verdict, ("The sheets differ.", "illegal")
+    )
     rows = [row for it in answer["differences"] for row in _rows(it)]
     return Comparison(headline, kind, rows, _sentences(answer), answer["merged"])
 
@@ -127,9 +129,15 @@ def _sentences(answer: dict[str, Any]) -> list[str]:
     if answer["left"]:
         said.append(f"of {_many(len(answer['left']), 'choice')} of the lines it is not known whether a deal yields the racks")
     if answer["not_varied"]:
-        said.append(f"{_many(answer['not_varied'], 'difference')} came after the twelfth, and was not tried either way" if answer["not_varied"] == 1 else f"{answer['not_varied']} differences came after the twelfth, and were not tried either way")
+        said.append(
+            f"{_many(answer['not_varied'], 'difference')} came after the twelfth, and was not tried either way"
+            if answer["not_varied"] == 1
+            else f"{answer['not_varied']} differences came after the twelfth, and were not tried either way"
+        )
     if answer["furthest"] is not None:
-        said.append(f"no choice of the lines is known to make a game; the one that goes furthest stops where {_refused(answer['furthest']['refused'])}")
+        said.append(
+            f"no choice of the lines is known to make a game; the one that goes furthest stops where {_refused(answer['furthest']['refused'])}"
+        )
     if answer["best_repair"] is not None:
         said.append(_repaired(answer))
     return [f"{sentence(it)}." for it in [*said, *_end(answer), *_merged(answer)]]
@@ -152,7 +160,9 @@ def _end(answer: dict[str, Any]) -> list[str]:
     said = ["the game is complete" if answer["ending"] == "complete" else "the game stands so far"]
     for total in answer["totals"]:
         if not total["first"] == total["second"] == total["right"]:
-            said.append(f"total of {names[total['player'] - 1]}: {_total(total['first'])} on the first sheet, {_total(total['second'])} on the second; the rules give {_total(total['right'])}")
+            said.append(
+                f"total of {names[total['player'] - 1]}: {_total(total['first'])} on the first sheet, {_total(total['second'])} on the second; the rules give {_total(total['right'])}"
+            )
     said.append(f"{names[ahead['player'] - 1]} {verb} by {ahead['by']}, by the right numbers" if ahead["player"] else "both have the same total")
     return said
 

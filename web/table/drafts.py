@@ -142,7 +142,10 @@ def started(first: str, second: str, lexicon: str = "", about: Mapping[str, str]
     nicks = [_nick_of(name, f"Player{number}") for number, name in enumerate(names, 1)]
     if nicks[0] == nicks[1]:
         nicks[1] += "2"
-    rows = [f"#player{number} {nick} {name}".rstrip() if name != nick else f"#player{number} {nick}" for number, (nick, name) in enumerate(zip(nicks, names), 1)]
+    rows = [
+        f"#player{number} {nick} {name}".rstrip() if name != nick else f"#player{number} {nick}"
+        for number, (nick, name) in enumerate(zip(nicks, names), 1)
+    ]
     text = HEADER + "\n".join(rows) + "\n"
     for name, said in (("lexicon", lexicon), *about.items()):
         text = with_pragma(text, name, " ".join(said.split()))

@@ -166,7 +166,10 @@ class Judge:
         """What the program says aside of a text: what its line lacks, what kind of file it seems to be, and which lines are not read."""
         ran = self._run(["tidy", "-"], game)
         lines = [line[len(ASIDE) :] for line in ran.stderr.splitlines() if line.startswith(ASIDE)]
-        return [line.replace("standard input line", "Line", 1) if "standard input line" in line else line.replace("standard input", "The text", 1) for line in lines]
+        return [
+            line.replace("standard input line", "Line", 1) if "standard input line" in line else line.replace("standard input", "The text", 1)
+            for line in lines
+        ]
 
     def board(self, draft: str, line: Optional[int] = None) -> Optional[Answer]:
         """The board after the last event, or before a line; nothing if the text is not a draft."""
@@ -231,7 +234,13 @@ class Judge:
             return Next(None, False, None, {}, 0)
         nicks = [player["nick"] for player in answer["players"]]
         of = {seat: nick for seat, nick in enumerate(nicks, 1)}
-        return Next(of.get(answer["turn"]), answer["complete"], of.get(answer["out"]), {player["nick"]: player["tiles"] for player in answer["players"]}, answer["bag"])
+        return Next(
+            of.get(answer["turn"]),
+            answer["complete"],
+            of.get(answer["out"]),
+            {player["nick"]: player["tiles"] for player in answer["players"]},
+            answer["bag"],
+        )
 
     def word(self, words: list[str]) -> Answer:
         """Whether words are acceptable."""
@@ -281,7 +290,15 @@ class Judge:
     def _run(self, words: list[str], game: str) -> subprocess.CompletedProcess[str]:
         """Runs a command, with a game as its standard input."""
         try:
-            return subprocess.run([self.settings.program, *words], input=game, capture_output=True, encoding="utf-8", errors="replace", timeout=self.settings.seconds, check=False)
+            return subprocess.run(
+                [self.settings.program, *words],
+                input=game,
+                capture_output=True,
+                encoding="utf-8",
+                errors="replace",
+                timeout=self.settings.seconds,
+                check=False,
+            )
         except subprocess.TimeoutExpired as error:
             raise TooLong from error
         except OSError as error:

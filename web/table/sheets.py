@@ -103,7 +103,11 @@ def _headline(verdict: dict[str, Any], answer: dict[str, Any]) -> str:
     wrong = [it for it in answer.get("wrong") or [] if it["written"] != it["right"] and it["wrong"] != "last total"]
     if verdict["verdict"] == "illegal" and answer["verdict"] == "legal" and wrong:
         many = len(wrong)
-        return "1 number is wrong. With the right one the game stands." if many == 1 else f"{many} numbers are wrong. With the right ones the game stands."
+        return (
+            "1 number is wrong. With the right one the game stands."
+            if many == 1
+            else f"{many} numbers are wrong. With the right ones the game stands."
+        )
     return shown.verdict_text(verdict)
 
 
@@ -129,7 +133,9 @@ def keep() -> Response:
         return download(judge().annotated(text) or text, drafts.file_name(text, "-annotated.gcg"))
     if what == "page":
         return download(judge().page(text), drafts.file_name(text, ".html"), "text/html; charset=utf-8")
-    return download(text, drafts.file_name(text, {"corrected": "-corrected.gcg", "merged": "-merged.gcg", "repaired": "-repaired.gcg"}.get(what, ".gcg")))
+    return download(
+        text, drafts.file_name(text, {"corrected": "-corrected.gcg", "merged": "-merged.gcg", "repaired": "-repaired.gcg"}.get(what, ".gcg"))
+    )
 
 
 # Two sheets.

@@ -88,7 +88,9 @@ def seats_of(text: str, board: Optional[dict[str, Any]], events: list[dict[str, 
     found = []
     for player in drafts.players_of(text):
         fields = last.get(player.nick)
-        found.append({"nick": player.nick, "name": player.name, "total": totals.get(player.nick, 0), "kept": drafts.kept_tiles(fields) if fields else None})
+        found.append(
+            {"nick": player.nick, "name": player.name, "total": totals.get(player.nick, 0), "kept": drafts.kept_tiles(fields) if fields else None}
+        )
     return found
 
 
@@ -178,7 +180,9 @@ def _repair(answer: dict[str, Any], changes: list[dict[str, Any]], sheet: str) -
             text[at : at + len(gone)] = come
     is_without = any(change["slip"] in TAKEN_OUT for change in changes)
     is_amount = [change["slip"] for change in changes] == ["other amount"]
-    return Repair(is_without, is_amount, shown, evidence["numbers_right"], evidence["numbers"], len(evidence["wrong"]), evidence["unlisted"], "\n".join(text))
+    return Repair(
+        is_without, is_amount, shown, evidence["numbers_right"], evidence["numbers"], len(evidence["wrong"]), evidence["unlisted"], "\n".join(text)
+    )
 
 
 def _edit(change: dict[str, Any], lines: list[str]) -> tuple[list[int], list[str], int]:

@@ -22,7 +22,17 @@ class Browser:
     def __init__(self, url: str, scripts: bool = True, profile: Optional[Path] = None) -> None:
         self.url, self.folder = url, Path(tempfile.mkdtemp(prefix="table-kept-"))
         options = webdriver.ChromeOptions()
-        for word in ("--headless=new", "--no-sandbox", "--hide-scrollbars", "--disable-gpu", "--disable-dev-shm-usage", "--disable-renderer-backgrounding", "--disable-extensions", "--window-size=1200,900", "--lang=en"):
+        for word in (
+            "--headless=new",
+            "--no-sandbox",
+            "--hide-scrollbars",
+            "--disable-gpu",
+            "--disable-dev-shm-usage",
+            "--disable-renderer-backgrounding",
+            "--disable-extensions",
+            "--window-size=1200,900",
+            "--lang=en",
+        ):
             options.add_argument(word)
         if profile:
             options.add_argument(f"--user-data-dir={profile}")
@@ -112,12 +122,16 @@ class Browser:
     def size(self, width: int, height: int, is_dark: bool) -> None:
         """A window of a size, in light or in dark."""
         self.driver.execute_cdp_cmd("Emulation.setDeviceMetricsOverride", {"width": width, "height": height, "deviceScaleFactor": 1, "mobile": False})
-        self.driver.execute_cdp_cmd("Emulation.setEmulatedMedia", {"features": [{"name": "prefers-color-scheme", "value": "dark" if is_dark else "light"}]})
+        self.driver.execute_cdp_cmd(
+            "Emulation.setEmulatedMedia", {"features": [{"name": "prefers-color-scheme", "value": "dark" if is_dark else "light"}]}
+        )
 
     def picture(self, path: Path, most: int = 3200) -> None:
         """A picture of the whole page."""
         width, height = (self.driver.execute_script(f"return document.documentElement.{side}") for side in ("clientWidth", "scrollHeight"))
-        self.driver.execute_cdp_cmd("Emulation.setDeviceMetricsOverride", {"width": width, "height": min(height, most), "deviceScaleFactor": 1, "mobile": False})
+        self.driver.execute_cdp_cmd(
+            "Emulation.setDeviceMetricsOverride", {"width": width, "height": min(height, most), "deviceScaleFactor": 1, "mobile": False}
+        )
         self.driver.save_screenshot(str(path))
 
     def complaints(self) -> list[str]:

@@ -86,7 +86,9 @@ def faults_under_load(seconds: float, many: int, page: Page) -> list[str]:
     for what, found in times.items():
         if found:
             middle, late = found[len(found) // 2], found[min(len(found) - 1, len(found) * 99 // 100)]
-            print(f"  {what}: {len(found)}, half of them within {1000 * middle:.0f} ms, 99 of 100 within {1000 * late:.0f} ms, all within {1000 * found[-1]:.0f} ms")
+            print(
+                f"  {what}: {len(found)}, half of them within {1000 * middle:.0f} ms, 99 of 100 within {1000 * late:.0f} ms, all within {1000 * found[-1]:.0f} ms"
+            )
     return [fault for person in people for fault in person.faults]
 
 

@@ -77,12 +77,7 @@ class Browsing(unittest.TestCase):
     def mistake(self, event: dict[str, str], player: str) -> None:
         """Enters something else, which is refused in words, or taken and undone."""
         before = self.draft()
-        wrong = {
-            "withdraw": {"kind": "play", "move": "8A ZZ"},
-            "challenge": {"points": "7"},
-            "time": {"points": "7"},
-            "last": {"tiles": "R"},
-        }
+        wrong = {"withdraw": {"kind": "play", "move": "8A ZZ"}, "challenge": {"points": "7"}, "time": {"points": "7"}, "last": {"tiles": "R"}}
         self.enter(event | (wrong.get(event["kind"]) or {"move": self.moved(event["move"])}), player)
         if self.draft() == before:
             self.assertEqual(len(self.browser.all("#refused")), 1)

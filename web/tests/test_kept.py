@@ -64,7 +64,11 @@ class Going(Keeping):
 
     def test_back_after_each(self) -> None:
         """From each page that a form gave one comes back to it."""
-        forms = [("/sheet", "#game", "Check it", "The sheet"), ("/view", "#game", "Show it", "Best plays"), ("/challenge", "#words", "Rule on it", "cceptable")]
+        forms = [
+            ("/sheet", "#game", "Check it", "The sheet"),
+            ("/view", "#game", "Show it", "Best plays"),
+            ("/challenge", "#words", "Rule on it", "cceptable"),
+        ]
         for path, field, button, said in forms:
             self.browser.open(path)
             self.browser.type(field, "nod" if path == "/challenge" else GAME)
@@ -120,7 +124,9 @@ class Going(Keeping):
             for come in (self.begin, lambda: self.opened(HALF)):
                 come()
                 self.browser.driver.execute_script("window.scrollTo(0, 0)")
-                box = lambda selector: self.browser.driver.execute_script("const it = document.querySelector(arguments[0]).getBoundingClientRect(); return [it.left, it.top, it.right, it.bottom]", selector)
+                box = lambda selector: self.browser.driver.execute_script(
+                    "const it = document.querySelector(arguments[0]).getBoundingClientRect(); return [it.left, it.top, it.right, it.bottom]", selector
+                )
                 board, field, button = box(".board"), box("#move"), box(".entry button.main")
                 self.assertGreater(board[2] - board[0], 335)
                 self.assertLess(board[3], field[1])
@@ -230,8 +236,10 @@ class Evening(unittest.TestCase):
     def test_no_markup(self) -> None:
         """What is kept is never markup, whoever wrote it there."""
         self.begin("<img/src=x>", "<b>Bob</b>")
-        self.browser.driver.execute_script("""localStorage.setItem("game x", JSON.stringify({ names: ["<img src=x onerror=alert(1)>"], points: ["<b>1</b>"], last: "<script>alert(1)</script>", text: "</textarea><img src=x>", at: 0 }));
-            localStorage.setItem("game y", "no object"); localStorage.setItem("game z", "null");""")
+        self.browser.driver.execute_script(
+            """localStorage.setItem("game x", JSON.stringify({ names: ["<img src=x onerror=alert(1)>"], points: ["<b>1</b>"], last: "<script>alert(1)</script>", text: "</textarea><img src=x>", at: 0 }));
+            localStorage.setItem("game y", "no object"); localStorage.setItem("game z", "null");"""
+        )
         self.browser.open("/")
         self.assertEqual(len(self.games()), 2)
         self.assertEqual(self.browser.all(".games img, .games script, .games .names *, .games b b"), [])

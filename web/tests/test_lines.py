@@ -153,7 +153,14 @@ class Correcting(Asking):
 
     def test_refused_text_stays(self) -> None:
         """What is refused stays in its fields, as it was typed."""
-        for fields, name in ((dict(kind="play", move="8a gaze"), "move"), (dict(kind="play", move="-AB9"), "move"), (dict(kind="exchange", tiles="A?1"), "tiles"), (dict(kind="challenge", points="7"), "points"), (dict(kind="time", points="7", player="Ann"), "points"), (dict(kind="play", move="A8 XX", rack="XXAB"), "rack")):
+        for fields, name in (
+            (dict(kind="play", move="8a gaze"), "move"),
+            (dict(kind="play", move="-AB9"), "move"),
+            (dict(kind="exchange", tiles="A?1"), "tiles"),
+            (dict(kind="challenge", points="7"), "points"),
+            (dict(kind="time", points="7", player="Ann"), "points"),
+            (dict(kind="play", move="A8 XX", rack="XXAB"), "rack"),
+        ):
             text = self.post("/game", do="add", draft=THREE, **fields)
             self.assertIn(f'name="{name}" value="{fields[name]}"', text, fields)
             self.assertIn('role="alert"', text)
@@ -201,8 +208,16 @@ class Typing(Asking):
         said = shown_in(self.text, "refused")
         self.assertIn("Z", said)
         self.assertNotIn("AEGVWXYZ", said)
-        for fields in (dict(kind="challenge"), dict(kind="time", player="Ann"), dict(kind="play", move="8D X"), dict(kind="play", move="10F NOX"), dict(kind="play", move="GAZE")):
-            text = self.post("/game", do="add", draft=GAME[: GAME.index(">Bob: CNORTUU (challenge)")] if fields["kind"] == "challenge" else THREE, **fields)
+        for fields in (
+            dict(kind="challenge"),
+            dict(kind="time", player="Ann"),
+            dict(kind="play", move="8D X"),
+            dict(kind="play", move="10F NOX"),
+            dict(kind="play", move="GAZE"),
+        ):
+            text = self.post(
+                "/game", do="add", draft=GAME[: GAME.index(">Bob: CNORTUU (challenge)")] if fields["kind"] == "challenge" else THREE, **fields
+            )
             said = shown_in(text, "refused")
             self.assertGreater(len(said), 20, fields)
             self.assertNotIn("is written", said, fields)
@@ -224,7 +239,10 @@ class Offering(Asking):
 
     def test_other_amount(self) -> None:
         """Ten for five of a bonus is offered as that, and first."""
-        for sheet, right in ((HEAD + ">Ann: 8E GAZE +28 28\n>Ann: (challenge) +10 38\n>Bob: 9G ONCE +24 24\n", ">Ann: (challenge) +5 33"), (GAME.replace("(challenge) +5 173", "(challenge) +10 173"), ">Bob: CNORTUU (challenge) +5 173")):
+        for sheet, right in (
+            (HEAD + ">Ann: 8E GAZE +28 28\n>Ann: (challenge) +10 38\n>Bob: 9G ONCE +24 24\n", ">Ann: (challenge) +5 33"),
+            (GAME.replace("(challenge) +5 173", "(challenge) +10 173"), ">Bob: CNORTUU (challenge) +5 173"),
+        ):
             text = self.post("/sheet", game=sheet, look="1")
             self.assertNotIn("line too many", words_in(text))
             self.assertNotIn("would explain it", words_in(text))
@@ -254,7 +272,14 @@ class Offering(Asking):
 
     def test_unread_words(self) -> None:
         """What cannot be read is never ruled on; a stray stop is no part of a word."""
-        for words, unread in (("8E WORD", "8E"), ("W0RD", "W0RD"), ("a", "A"), ("nod qi-", "QI-"), ("é nod", "É"), ("ABCDEFGHIJKLMNOP", "ABCDEFGHIJKLMNOP")):
+        for words, unread in (
+            ("8E WORD", "8E"),
+            ("W0RD", "W0RD"),
+            ("a", "A"),
+            ("nod qi-", "QI-"),
+            ("é nod", "É"),
+            ("ABCDEFGHIJKLMNOP", "ABCDEFGHIJKLMNOP"),
+        ):
             text = self.post("/challenge", words=words)
             self.assertIn(f"{unread} cannot be read So there is no ruling.", words_in(text))
             self.assertNotIn('class="ruling', text)
@@ -328,10 +353,22 @@ class Naming(Asking):
             rows = archive.read("results.csv").decode().splitlines()
         self.assertEqual(rows[1], '"","Ann Lee","322","Bob Ray","356","Bob Ray won by 34"')
         self.assertEqual(rows[2], '"","Ann Lee","50","Bob Ray","24","Ann Lee is ahead by 26"')
-        text = self.client.ask("POST", "/evening", urlencode([("token", self.client.token), ("games", THREE)]), Content_Type="application/x-www-form-urlencoded")[1]
+        text = self.client.ask(
+            "POST", "/evening", urlencode([("token", self.client.token), ("games", THREE)]), Content_Type="application/x-www-form-urlencoded"
+        )[1]
         self.assertIn("Ann Lee 50 Bob Ray 24 Ann Lee is ahead by 26", words_in(text))
         formula = THREE.replace("Ann Lee", "=1+1")
-        self.assertIn("=1+1", words_in(self.client.ask("POST", "/evening", urlencode([("token", self.client.token), ("games", formula)]), Content_Type="application/x-www-form-urlencoded")[1]))
+        self.assertIn(
+            "=1+1",
+            words_in(
+                self.client.ask(
+                    "POST",
+                    "/evening",
+                    urlencode([("token", self.client.token), ("games", formula)]),
+                    Content_Type="application/x-www-form-urlencoded",
+                )[1]
+            ),
+        )
 
     def token(self) -> str:
         """The token of a form."""

@@ -20,7 +20,14 @@ MIB = 1 << 20
 
 def drafted(game: str) -> str:
     """A record without its numbers, but with the points of challenges and penalties."""
-    return "".join(re.sub(r" -?\d+\n$", "\n", line) if "(challenge)" in line or "(time)" in line else re.sub(r" [+-]\d+ -?\d+\n$", "\n", line) if line.startswith(">") else line for line in game.splitlines(True))
+    return "".join(
+        re.sub(r" -?\d+\n$", "\n", line)
+        if "(challenge)" in line or "(time)" in line
+        else re.sub(r" [+-]\d+ -?\d+\n$", "\n", line)
+        if line.startswith(">")
+        else line
+        for line in game.splitlines(True)
+    )
 
 
 class Asking(unittest.TestCase):
@@ -123,7 +130,13 @@ class Entering(Asking):
         self.assertEqual(draft_in(text), GAME[:at])
         self.assertIn('value="10F NOD"', text)
         self.assertIn('value="ADLNORS"', text)
-        for code, kind in (("-- -20 0", "withdraw"), ("-AEI +0 0", "exchange"), ("(challenge) +5 5", "challenge"), ("- +0 0", "pass"), ("(AB) +4 4", "last")):
+        for code, kind in (
+            ("-- -20 0", "withdraw"),
+            ("-AEI +0 0", "exchange"),
+            ("(challenge) +5 5", "challenge"),
+            ("- +0 0", "pass"),
+            ("(AB) +4 4", "last"),
+        ):
             text = self.post("/game", do="undo", draft=f">Ann: {code}\n")
             self.assertRegex(text, rf'id="kind-{kind}" value="{kind}" checked')
 
@@ -169,7 +182,21 @@ class Entering(Asking):
         """Nothing and nonsense end in a page too."""
         status, _ = self.client.send("/game", {"do": "open", "game": " "})
         self.assertEqual(status, 303)
-        for draft in ("", "x", ">", ">:", ">Ann:", ">Ann: (", "#player1", ">A: 8E", "\0", ">Ann: 8E W 1 2 3", "é\n>Ann: 8E é\n", ">Ann: (challenge)\n", ">Ann: -8 +9999999 1\n"):
+        for draft in (
+            "",
+            "x",
+            ">",
+            ">:",
+            ">Ann:",
+            ">Ann: (",
+            "#player1",
+            ">A: 8E",
+            "\0",
+            ">Ann: 8E W 1 2 3",
+            "é\n>Ann: 8E é\n",
+            ">Ann: (challenge)\n",
+            ">Ann: -8 +9999999 1\n",
+        ):
             for do in ("read", "undo", "add", "cut-1", "cut-99", "square-8E", "square-zz", "what", "keep"):
                 status, text = self.client.post("/game", {"do": do, "draft": draft, "move": "8E GAZE", "player": "Ann"})
                 self.assertEqual(status, 200, (draft, do, text))
@@ -289,7 +316,13 @@ class Checking(Asking):
     def test_markup(self) -> None:
         """Nothing of a record becomes markup."""
         bad = '#player1 A <script>alert(1)</script>\n>A: 8E <img/src=x> +1 1\n"><b>'
-        for path, fields in (("/sheet", {"game": bad}), ("/view", {"game": bad}), ("/two", {"first": bad, "second": bad}), ("/game", {"do": "open", "game": bad}), ("/challenge", {"words": "<img/src=x>"})):
+        for path, fields in (
+            ("/sheet", {"game": bad}),
+            ("/view", {"game": bad}),
+            ("/two", {"first": bad, "second": bad}),
+            ("/game", {"do": "open", "game": bad}),
+            ("/challenge", {"words": "<img/src=x>"}),
+        ):
             text = self.post(path, **fields)
             self.assertNotIn("<script>", text)
             self.assertNotIn("<img", text)
@@ -302,7 +335,14 @@ class Keeping(Asking):
         for path in ("/", "/game", "/sheet", "/two", "/challenge", "/view", "/static/table.css", "/none"):
             self.client.get(path)
             policy = self.client.headers["Content-Security-Policy"]
-            for part in ("default-src 'none'", "script-src 'self'", "style-src 'self'", "form-action 'self'", "base-uri 'none'", "frame-ancestors 'none'"):
+            for part in (
+                "default-src 'none'",
+                "script-src 'self'",
+                "style-src 'self'",
+                "form-action 'self'",
+                "base-uri 'none'",
+                "frame-ancestors 'none'",
+            ):
                 self.assertIn(part, policy.split("; "), path)
             self.assertEqual(self.client.headers["X-Frame-Options"], "DENY")
             self.assertEqual(self.client.headers["X-Content-Type-Options"], "nosniff")
@@ -325,7 +365,13 @@ class Keeping(Asking):
             self.assertEqual(self.client.get("/", Host=host)[0], 200, host)
 
     def test_other_sites(self) -> None:
-        for headers in ({"Origin": "http://example.org"}, {"Origin": "null"}, {"Sec_Fetch_Site": "cross-site"}, {"Sec_Fetch_Site": "same-site"}, {"Host": "example.org"}):
+        for headers in (
+            {"Origin": "http://example.org"},
+            {"Origin": "null"},
+            {"Sec_Fetch_Site": "cross-site"},
+            {"Sec_Fetch_Site": "same-site"},
+            {"Host": "example.org"},
+        ):
             self.assertEqual(self.client.post("/sheet", {"game": GAME}, **headers)[0], 403, headers)
         own = {"Origin": self.page.url, "Sec_Fetch_Site": "same-origin"}
         self.assertEqual(self.client.post("/sheet", {"game": GAME}, **own)[0], 200)
@@ -353,17 +399,36 @@ class Keeping(Asking):
         self.assertEqual(self.client.ask("POST", "/sheet", b"", Content_Type=kind, Content_Length=str(MIB + 1))[0], 413)
         self.assertIn("no more than 1 MiB", self.client.ask("POST", "/sheet", b"", Content_Type=kind, Content_Length=str(MIB + 1))[1])
         with socket.create_connection(("127.0.0.1", self.page.port), timeout=20) as it:
-            it.sendall(b"POST /sheet HTTP/1.1\r\nHost: localhost\r\nTransfer-Encoding: chunked\r\nContent-Type: " + kind.encode() + b"\r\n\r\n5\r\ngame=\r\n0\r\n\r\n")
+            it.sendall(
+                b"POST /sheet HTTP/1.1\r\nHost: localhost\r\nTransfer-Encoding: chunked\r\nContent-Type: "
+                + kind.encode()
+                + b"\r\n\r\n5\r\ngame=\r\n0\r\n\r\n"
+            )
             self.assertIn(b" 411 ", it.recv(200))
 
     def test_methods(self) -> None:
-        for method, path in (("PUT", "/sheet"), ("DELETE", "/"), ("GET", "/keep"), ("GET", "/etc/passwd"), ("GET", "/static/../settings.py"), ("GET", "/static/%2e%2e/settings.py"), ("TRACE", "/")):
+        for method, path in (
+            ("PUT", "/sheet"),
+            ("DELETE", "/"),
+            ("GET", "/keep"),
+            ("GET", "/etc/passwd"),
+            ("GET", "/static/../settings.py"),
+            ("GET", "/static/%2e%2e/settings.py"),
+            ("TRACE", "/"),
+        ):
             self.assertIn(self.client.ask(method, path)[0], (404, 405), (method, path))
 
     def test_odd_forms(self) -> None:
         """A form that no page sends ends in a page too."""
         self.client.get("/game")
-        for fields in ({"game-kept": "$"}, {"game-kept": "/w=="}, {"what": "x"}, {"line": "9" * 30, "game": GAME}, {"words": "a" * 5000}, {"game": "\ud7ff\U0010ffff\0"}):
+        for fields in (
+            {"game-kept": "$"},
+            {"game-kept": "/w=="},
+            {"what": "x"},
+            {"line": "9" * 30, "game": GAME},
+            {"words": "a" * 5000},
+            {"game": "\ud7ff\U0010ffff\0"},
+        ):
             for path in ("/sheet", "/view", "/keep", "/two", "/challenge", "/game"):
                 self.assertIn(self.client.post(path, fields)[0], (200, 303, 400), (path, fields))
 

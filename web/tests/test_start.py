@@ -85,7 +85,12 @@ class Starting(unittest.TestCase):
         port = free_port()
         words = self.list("some.txt", "AA", "AB")
         log = open(self.folder / "log", "w+")
-        process = subprocess.Popen([str(ROOT / "web" / "start.sh"), "--port", str(port), "--workers", "1", words], stdout=log, stderr=log, env=os.environ | {"REFEREE": str(program)})
+        process = subprocess.Popen(
+            [str(ROOT / "web" / "start.sh"), "--port", str(port), "--workers", "1", words],
+            stdout=log,
+            stderr=log,
+            env=os.environ | {"REFEREE": str(program)},
+        )
         try:
             said, began = "", time.monotonic()
             while "the table is at" not in said and time.monotonic() - began < 60:
@@ -120,8 +125,16 @@ class Starting(unittest.TestCase):
 
     def test_code(self) -> None:
         """Where others can open the page, its address is a code to scan too, if the system can make one."""
-        code = "import sys; sys.path.insert(0, sys.argv[1]); from table.place import told; print(told('192.0.2.7:8080')); print(told('127.0.0.1:8080'))"
-        said = subprocess.run(["/usr/bin/python3", "-c", code, str(ROOT / "web")], capture_output=True, text=True, check=True, env=os.environ | {"PYTHONPATH": str(ROOT / "python")}).stdout
+        code = (
+            "import sys; sys.path.insert(0, sys.argv[1]); from table.place import told; print(told('192.0.2.7:8080')); print(told('127.0.0.1:8080'))"
+        )
+        said = subprocess.run(
+            ["/usr/bin/python3", "-c", code, str(ROOT / "web")],
+            capture_output=True,
+            text=True,
+            check=True,
+            env=os.environ | {"PYTHONPATH": str(ROOT / "python")},
+        ).stdout
         self.assertIn("the table is at http://192.0.2.7:8080/\n", said)
         self.assertTrue(said.endswith("the table is at http://127.0.0.1:8080/\n"))
         try:
