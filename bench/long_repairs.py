@@ -1,9 +1,9 @@
 """Measures `repair` of records of 1,000 events with slips of the pen.
 
-The records are made as games are dealt, by a set of 200 tiles, so more than nine in ten of the events are exchanges. Their list has the words of all plays
-that are kept, but for those that are left out. Each slip is of one of the kinds of `oracle/run repair_figures`. A row has the slips, how racks are stated,
-what `judge` says of the record, the first repair or that there is none, the processor time, and the peak memory. The last line has the time in the mean
-and at most.
+The records are made as games are dealt, by a set of 200 tiles, so more than nine in ten of the events are exchanges. Their list has the words of all
+plays that are kept, but for those that are left out. Each slip is of one of the kinds of `oracle/run repair_figures`. A row has the slips, how racks
+are stated, what `judge` says of the record, the first repair or that there is none, the processor time, and the peak memory. The last line has the
+time in the mean and at most.
 """
 import argparse
 import random

@@ -1,8 +1,8 @@
 """Measures requests to judge games, sent to `serve` of one program or of several in turn: serve.py PROGRAM [PROGRAM ..]
 
 One game that is sent again and again; games that grow, as the tables of a tournament send them: each game after its first event, then each after its
-second, and so on; and games of which each is sent once. Each kind comes with fewer requests and with more, so that the table shows how time and memory
-grow. The time is that of the processor, less that of a run without a request; the memory is the peak. The programs have to answer the same.
+second, and so on; and games of which each is sent once. Each kind comes with fewer requests and with more, so that the table shows how time and
+memory grow. The time is that of the processor, less that of a run without a request; the memory is the peak. The programs have to answer the same.
 """
 import json
 import random

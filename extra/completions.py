@@ -2,9 +2,9 @@
 """Writes the completions for bash, zsh and fish and the manual page from what a program says in its help: extra/completions.py PROGRAM [--check]
 
 The commands, their arguments and their options are in one table, crates/cli_args/src/commands.rt. The program prints it as help, and this
-script makes extra/referee.bash, extra/_referee and extra/referee.fish of it. In extra/referee.1 it puts the version, and for each command its line and
-its options; what the page says of them stays, and what it says nothing of gets the words of help. With `--check` it writes nothing, and says which of
-the files is out of date; the exit status is then 1.
+script makes extra/referee.bash, extra/_referee and extra/referee.fish of it. In extra/referee.1 it puts the version, and for each command its line
+and its options; what the page says of them stays, and what it says nothing of gets the words of help. With `--check` it writes nothing, and says
+which of the files is out of date; the exit status is then 1.
 """
 import re
 import subprocess

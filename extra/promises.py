@@ -39,7 +39,8 @@ def exported_by(text):
 
 
 def owner_of(line):
-    """What the calls of a block belong to: the type of `impl TYPE`, or the trait; nothing for an `impl TRAIT for TYPE`, whose promises are the trait's."""
+    """What the calls of a block belong to: the type of `impl TYPE`, or the trait; nothing for an `impl TRAIT for TYPE`, whose promises are the
+    trait's."""
     head = line.split(" where ")[0].replace("->", "")
     while re.search(r"<[^<>]*>", head):
         head = re.sub(r"<[^<>]*>", "", head)

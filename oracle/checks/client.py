@@ -1,7 +1,7 @@
 """Tries the client in `python/`: client PROGRAM CASES SEED
 
-The client has to give the answers of the commands for as many games as CASES says, to start a program again that is killed or does not answer, and to answer
-1,000 requests from 8 threads, each with its own answer.
+The client has to give the answers of the commands for as many games as CASES says, to start a program again that is killed or does not answer, and to
+answer 1,000 requests from 8 threads, each with its own answer.
 """
 import json
 import os

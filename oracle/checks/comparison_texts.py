@@ -1,7 +1,7 @@
 """What `compare` prints, made from the object of `compare --json`: the second judge's.
 
-`text_of` makes the lines from the keys of the object alone, so that the words and the object of one run can be compared. The words for the change of a
-repair are compared by `compare_repairs`; here it is only looked at which choice has it and on which sheet it is.
+`text_of` makes the lines from the keys of the object alone, so that the words and the object of one run can be compared. The words for the change of
+a repair are compared by `compare_repairs`; here it is only looked at which choice has it and on which sheet it is.
 """
 STATUSES = {"agree": 0, "differ": 1, "unsettled": 2}
 OTHER = {"first": "second", "second": "first"}

@@ -1,8 +1,9 @@
 """Says which edits that must fail cannot be applied: edits FOLDER
 
-FOLDER has the crates. Each file of must-fail/ and more-must-fail/ names a file of its crate, and then pairs of lines: a text that has to be in that file
-exactly once, and the different text that takes its place. Nothing is proved here: rt ci tries the edits of must-fail/, and extra/edits.sh the others,
-which nothing else in the gate reads. A name is used only once in a crate. must-fail/ has at most ten edits, and more-must-fail/ at most twenty.
+FOLDER has the crates. Each file of must-fail/ and more-must-fail/ names a file of its crate, and then pairs of lines: a text that has to be in that
+file exactly once, and the different text that takes its place. Nothing is proved here: rt ci tries the edits of must-fail/, and extra/edits.sh the
+others, which nothing else in the gate reads. A name is used only once in a crate. must-fail/ has at most ten edits, and more-must-fail/ at most
+twenty.
 """
 import sys
 from pathlib import Path

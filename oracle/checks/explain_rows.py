@@ -360,7 +360,8 @@ CHALLENGES = [
         ">A: DORWAAE 8E WORD +16 16\n" ">B: 9G AT +9 9\n" ">B: (challenge) +20 29\n",
         "illegal line 3: BadBonus\n"
         "line 3: >B: (challenge) +20 29\n"
-        "A bonus is 5 points for each challenged word that is in the word list. 3 words of the play are, so the bonus can be 5, 10 or 15, but 20 is written.\n",
+        "A bonus is 5 points for each challenged word that is in the word list. "
+        "3 words of the play are, so the bonus can be 5, 10 or 15, but 20 is written.\n",
     ),
     (
         "WORD",
@@ -438,7 +439,8 @@ RACKS = [
         ">A: ?? - +0 0\n" ">B: ? - +0 0\n",
         "illegal line 2: TilesShort ?\n"
         "line 2: >B: ? - +0 0\n"
-        "The game has 2 of the tile ?, but by what the lines up to this one show there would have to be 3: 0 on the board, 2 on A's rack and 1 on B's.\n"
+        "The game has 2 of the tile ?, but by what the lines up to this one show there would have to be 3: "
+        "0 on the board, 2 on A's rack and 1 on B's.\n"
         "  line 1 shows 2 on A's rack\n"
         "  line 2 shows 1 on B's rack\n",
     ),
@@ -447,7 +449,8 @@ RACKS = [
         ">A: Q 8F QAT +24 24\n" ">B: AE -2 +0 0\n" ">A: - +0 24\n" ">B: Q - +0 0\n",
         "illegal line 4: TilesShort Q\n"
         "line 4: >B: Q - +0 0\n"
-        "The game has 1 of the tile Q, but by what the lines up to this one show there would have to be 2: 1 on the board, 0 on A's rack and 1 on B's.\n"
+        "The game has 1 of the tile Q, but by what the lines up to this one show there would have to be 2: "
+        "1 on the board, 0 on A's rack and 1 on B's.\n"
         "  line 1 shows 1 on A's rack and plays 1\n"
         "  line 4 shows 1 on B's rack\n",
     ),
@@ -614,8 +617,8 @@ ORDERS = [
     ),
 ]
 
-# Records whose events the rules allow: plays that stand with words that are not in the list, turns without a rack or with a part of it, and a last rack
-# that is missing.
+# Records whose events the rules allow: plays that stand with words that are not in the list, turns without a rack or with a part of it, and a last
+# rack that is missing.
 NOTES = [
     (
         "AT\nRA",
@@ -755,21 +758,24 @@ RECORDS = [
         ">Ann: -8 +0 0\n",
         "bad record line 1: Code\n"
         "line 1: >Ann: -8 +0 0\n"
-        "-8 is not an event: an event is a play with its position, word, score and total, or one of the codes -, --, -TILES, -NUMBER, (challenge), (time) and (TILES).\n",
+        "-8 is not an event: an event is a play with its position, word, score and total, "
+        "or one of the codes -, --, -TILES, -NUMBER, (challenge), (time) and (TILES).\n",
     ),
     (
         "AT",
         ">Ann: AT -8 +0 0\n",
         "bad record line 1: Code\n"
         "line 1: >Ann: AT -8 +0 0\n"
-        "-8 is not an event: an event is a play with its position, word, score and total, or one of the codes -, --, -TILES, -NUMBER, (challenge), (time) and (TILES).\n",
+        "-8 is not an event: an event is a play with its position, word, score and total, "
+        "or one of the codes -, --, -TILES, -NUMBER, (challenge), (time) and (TILES).\n",
     ),
     (
         "AT",
         ">Ann: 8E WORD +16\n",
         "bad record line 1: Code\n"
         "line 1: >Ann: 8E WORD +16\n"
-        "8E is not an event: an event is a play with its position, word, score and total, or one of the codes -, --, -TILES, -NUMBER, (challenge), (time) and (TILES).\n"
+        "8E is not an event: an event is a play with its position, word, score and total, "
+        "or one of the codes -, --, -TILES, -NUMBER, (challenge), (time) and (TILES).\n"
         "The score or the total is missing: an event ends with both.\n",
     ),
     (

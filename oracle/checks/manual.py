@@ -1,8 +1,9 @@
 """Compares the manual page and the completions with what the program knows: manual PROGRAM
 
 Commands, arguments, options and possible values are taken from the program's own help, by extra/completions.py. The manual page and the completions
-have to be those that it makes; README's table of commands has to have the lines of the page; and bash, zsh and fish, which run the completions, have to
-offer the same. A shell that is not installed is left out, and that is said. The example in the help of each command has to end with status 0 in a copy of examples/, and the statuses in it have to be among those of the page.
+have to be those that it makes; README's table of commands has to have the lines of the page; and bash, zsh and fish, which run the completions, have
+to offer the same. A shell that is not installed is left out, and that is said. The example in the help of each command has to end with status 0 in a
+copy of examples/, and the statuses in it have to be among those of the page.
 """
 import os
 import pty
@@ -21,7 +22,8 @@ sys.path.append(str(EXTRA))
 
 import completions
 
-# What zsh runs before it is asked: a tab writes each word that is offered to OFFERED, and then a line `end`, and so does the prompt once it takes keys.
+# What zsh runs before it is asked: a tab writes each word that is offered to OFFERED, and then a line `end`, and so does the prompt once it takes
+# keys.
 IN_ZSH = """PROMPT= RPROMPT=
 fpath=($EXTRA $fpath)
 autoload -Uz compinit && compinit -u -D
@@ -60,7 +62,8 @@ def named(options):
 
 
 def compare_page(program, commands, failed):
-    """README's table of commands, which has the lines of the manual page, and the values of arguments, which the page names. Gives the statuses of the page."""
+    """README's table of commands, which has the lines of the manual page, and the values of arguments, which the page names. Gives the statuses of
+    the page."""
     text = completions.files(program)["referee.1"]
     sections = re.findall(r"^\.SS ([a-z]+)(.*)\n((?s:.*?))(?=^\.S[SH] )", text, re.M)
     for name, _, body in sections:
@@ -139,8 +142,8 @@ SHELLS = {"bash": (in_bash, "referee.bash"), "zsh": (in_zsh, "_referee"), "fish"
 
 
 def rows_of(own, commands):
-    """Words of command lines, the last of which is being written, with what has to be offered: commands, options, the values of an argument, none for a
-    number, and files."""
+    """Words of command lines, the last of which is being written, with what has to be offered: commands, options, the values of an argument, none for
+    a number, and files."""
     rows = [((word,), names) for word, names in (("", commands), ("-", own), ("--v", ["--version"]), ("j", ["judge"]))]
     rows += [((name, "-"), commands[name][1]) for name in commands]
     rows += [((name, "x", "--"), [it for it in commands[name][1] if it.startswith("--")]) for name in commands if commands[name][0]]

@@ -22,7 +22,8 @@ NARROW, WIDE = (360, 800), (1200, 900)
 LOW_CONTRAST = """
 const parts = c => c.match(/[0-9.]+/g).map(Number), linear = v => v <= .04045 ? v / 12.92 : ((v + .055) / 1.055) ** 2.4;
 const light = c => { const [r, g, b] = parts(c).map(v => linear(v / 255)); return .2126 * r + .7152 * g + .0722 * b };
-const behind = e => { for (; e; e = e.parentElement) { const c = getComputedStyle(e).backgroundColor; if ((parts(c)[3] ?? 1) > .99) return c } return 'rgb(255,255,255)' };
+const behind = e => { for (; e; e = e.parentElement) { const c = getComputedStyle(e).backgroundColor; \
+if ((parts(c)[3] ?? 1) > .99) return c } return 'rgb(255,255,255)' };
 const told = new Set();
 for (const e of document.body.querySelectorAll('*')) {
     const s = getComputedStyle(e), own = [...e.childNodes].some(n => n.nodeType == 3 && n.data.trim());

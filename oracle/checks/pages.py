@@ -11,7 +11,8 @@ Blocks of a page are run from its top to its end in one copy of examples/, which
 - Commands within the text have to end with status 0, where they name files and none in capitals; else they have to be known.
 
 A block whose first line begins with `# not run:` is left out, and so is one that needs a program that is not installed. The program stands where
-`extra/prove.sh` leaves it, too. The picture of README.md is drawn again (`picture.py`). A page has no command of the program in a block of another kind, except its usage, with names in capitals.
+`extra/prove.sh` leaves it, too. The picture of README.md is drawn again (`picture.py`). A page has no command of the program in a block of another
+kind, except its usage, with names in capitals.
 """
 import os
 import re

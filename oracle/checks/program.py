@@ -117,8 +117,8 @@ BAD = {  # what is said of the first fault of a file that is no record
     "no-total": "referee: no-total line 1: 8E is not an event: an event is a play with its position, word, score and total, or one of the codes"
     " -, --, -TILES, -NUMBER, (challenge), (time) and (TILES). The score or the total is missing: an event ends with both.",
     "no-numbers": "referee: no-numbers line 1: There are 2 fields after the colon, but an event has 3 to 5. The score and the total are missing.",
-    "numbers-alone": "referee: numbers-alone line 1: There are 2 fields after the colon, but an event has 3 to 5. The play or the code before the score"
-    " is missing.",
+    "numbers-alone": "referee: numbers-alone line 1: There are 2 fields after the colon, but an event has 3 to 5."
+    " The play or the code before the score is missing.",
     "latin-third": "referee: latin-third line 4: \u00c9va is a third nickname: the players are A and B.",
     "returns-alone": "referee: returns-alone line 1: There are more than 5 fields after the colon, but an event has 3 to 5."
     " (its lines end only in CR, not in LF or CR LF)",
@@ -1255,8 +1255,8 @@ PAGED = [  # a game, its line but for its name and its page, the page, and the v
     ("..", "unread - - is_a_folder - - - - - -", "-", ["\u2013 unread: is a folder", "", "", "", "", ""]),
 ]
 IN_ORDER = [  # the rows of the index: by name, with numbers in names by their value
-    "..", "./line", "<b>&\"'.gcg", "folder/../line", "index", "index.gcg", "latin-stated", "line", "nothing", "nowhere", "r1/final.gcg", "r2/100%", "r2/final.gcg", "third", "turn",
-    "unlisted",
+    "..", "./line", "<b>&\"'.gcg", "folder/../line", "index", "index.gcg", "latin-stated", "line", "nothing", "nowhere",
+    "r1/final.gcg", "r2/100%", "r2/final.gcg", "third", "turn", "unlisted",
 ]  # fmt: skip
 COUNTED = ["\u2713 10 legal", "\u2717 2 illegal", "\u2013 1 bad record", "\u2013 1 no game", "\u2013 2 unread"]
 
@@ -1610,8 +1610,8 @@ THIRD = {"verdict": "bad record", "line": 3, "fault": {"name": "ThirdPlayer"}}
 
 
 def sheets_served(run):
-    """The requests `repair`, `compare` and `annotate` to `serve`: the status, the object and the text of each, made by hand, and that the object is the one that
-    the command writes."""
+    """The requests `repair`, `compare` and `annotate` to `serve`: the status, the object and the text of each, made by hand, and that the object is
+    the one that the command writes."""
     run.row(["build", "word-at-ra", "word-at-ra.gad"], 0)
     Path(run.folder, "eats").write_text("AT\nDT\nEAT\nOE\nRA\nWORD\n")
     run.row(["build", "eats", "eats.gad"], 0)
@@ -1715,14 +1715,16 @@ def audited(run):
         (
             "bonus-of-10",
             1,
-            "line 2: sum 21, should be 26 (A, (challenge))\nOr: line 2: a bonus for a challenge, 5, not 10\n  8 of 8 numbers right\nillegal line 2: BadBonus\n",
+            "line 2: sum 21, should be 26 (A, (challenge))\nOr: line 2: a bonus for a challenge, 5, not 10\n"
+            "  8 of 8 numbers right\nillegal line 2: BadBonus\n",
             None,
         ),
         ("untidy", 0, f"legal unfinished\n{lead}", TEXTS["untidy"].encode()),
         (
             "by-hand",
             1,
-            "line 5: score 10, should be 9 (B, 9G AT)\ntotal of B: 10, should be 9\nlegal unfinished\nA is ahead by 7; by the sheet A is ahead by 6\n",
+            "line 5: score 10, should be 9 (B, 9G AT)\ntotal of B: 10, should be 9\n"
+            "legal unfinished\nA is ahead by 7; by the sheet A is ahead by 6\n",
             f"{BY_HAND}>B: AT 9G AT +9 9{OTHERS}".encode(),
         ),
         ("nothing", 3, "no game\n", None),
@@ -1818,7 +1820,8 @@ def filled(run):
         (
             f"{bare}\n>B: -\n>A: - +0 21\n>B: -\n",
             1,
-            "put in: 3 scores, 3 totals\nline 3: sum 21, should be 16 (A, -)\nOr: before line 2: A gets 5 points for a failed challenge\n  8 of 8 numbers right\nlegal unfinished\n"
+            "put in: 3 scores, 3 totals\nline 3: sum 21, should be 16 (A, -)\n"
+            "Or: before line 2: A gets 5 points for a failed challenge\n  8 of 8 numbers right\nlegal unfinished\n"
             f"A is ahead by 16; by the sheet A is ahead by 21\n{HELD}",
             None,
         ),
@@ -1963,7 +1966,10 @@ DOWN_MARKED = [
     ("11 . . . . - . . . . . - . . . .", "11 . . . . - . .[.]. . - . . . ."),
 ]
 XORD_SUMS = "XORD, which is not in the word list\n  8E X 8\n  8F O 1\n  8G R 1\n  8H D 2, double word\n  sum 12 x 2 = 24\nscore of the play: 24\n"
-NOT_AN_EVENT = "8E is not an event: an event is a play with its position, word, score and total, or one of the codes -, --, -TILES, -NUMBER, (challenge), (time) and (TILES).\n"
+NOT_AN_EVENT = (
+    "8E is not an event: an event is a play with its position, word, score and total, "
+    "or one of the codes -, --, -TILES, -NUMBER, (challenge), (time) and (TILES).\n"
+)
 AT_SUMS = """\
 AT
   9G A 1 x 2 = 2, double letter
@@ -2055,8 +2061,8 @@ def repairs_listed(run):
 
 
 def through_sheet(run, at, eat):
-    """`repair` of sheets with a slip that runs through them, and of one with a line that is not read: the slip comes first, and the sheet without it is
-    written. What comes after the slip is compared with the second judge by `compare_repairs`."""
+    """`repair` of sheets with a slip that runs through them, and of one with a line that is not read: the slip comes first, and the sheet without it
+    is written. What comes after the slip is compared with the second judge by `compare_repairs`."""
     word = ">A: AADEORW 8E WORD +16 16\n"
     right, passes = word + at + eat, word + at + eat + ">B: - +0 9\n>A: - +0 21\n"
     rows = [  # the sheet, its verdict, the slip, how many numbers are right, and the sheet without it
@@ -2124,11 +2130,17 @@ def through_sheet(run, at, eat):
 
 
 def misread_twice(run, at, eat):
-    """`repair` of a sheet on which one tile is misread on the rack and in the word, and of one on which it is on the rack and in the exchange. On the first
-    the scores say which tile it is, and the sheet is written with it; on the second nothing does."""
+    """`repair` of a sheet on which one tile is misread on the rack and in the word, and of one on which it is on the rack and in the exchange. On the
+    first the scores say which tile it is, and the sheet is written with it; on the second nothing does."""
     played = "illegal line 1: WrongScore 30\nline 1: WORD at 8E, not WXRD: the X on the rack is O too\n  6 of 6 numbers right\n"
-    played += "with only the numbers corrected it is a game\n  4 of 6 numbers right\n  line 1: score 16, should be 30\n  line 3: score 5, should be 12\n  not in the list: WXRD, XE\n"
-    exchanged = "illegal line 2: TilesShort Z\nline 2: an exchange of AA, not AZ: the Z on the rack is A too (or with B, C, D, E, F, G, H, I, J, K, L, M, N, O, P, Q, R, S, T, U, V, W, X, Y, ?)\n  6 of 6 numbers right\n"
+    played += (
+        "with only the numbers corrected it is a game\n  4 of 6 numbers right\n"
+        "  line 1: score 16, should be 30\n  line 3: score 5, should be 12\n  not in the list: WXRD, XE\n"
+    )
+    exchanged = (
+        "illegal line 2: TilesShort Z\nline 2: an exchange of AA, not AZ: the Z on the rack is A too"
+        " (or with B, C, D, E, F, G, H, I, J, K, L, M, N, O, P, Q, R, S, T, U, V, W, X, Y, ?)\n  6 of 6 numbers right\n"
+    )
     Path(run.folder, "za").write_text("ZA\n")
     run.row(["build", "za", "za.gad"], 0)
     rows = [  # the list, the sheet, what is told, what it ends with, the sheet that is written, the name of the slip and the line that is put there
@@ -2264,7 +2276,8 @@ def left_open(run):
 
 
 def choices_left_open(run):
-    """`compare` of such a game with sheets of which a deal is found, or not: no sentence says of a choice that is left open that no deal yields its racks."""
+    """`compare` of such a game with sheets of which a deal is found, or not: no sentence says of a choice that is left open that no deal yields its
+    racks."""
     kept, ahead = ["compare", "--merged", "out", "jx", "jx.gad"], "legal unfinished\nA is ahead by 32\n"
     open_one = "of 1 choice of the lines it is not known whether a deal yields the racks\n"
     other, none = "not written: it is not known whether another choice is a game\n", "not written: no choice of the lines is known to be a game\n"
@@ -2406,7 +2419,10 @@ def compared(run):
         for name in ("other", "left"):
             Path(run.folder, f"noted {name}").write_text("#note the first table\n" + Path(run.folder, name).read_text())
         lines, one, two, taken = names
-        begins = f"{lines}: {one} WORD +16 16 | {two} WORD +16 16\nnone of 2 choices of the lines is known to be a game\nfirst goes furthest: {lines} is refused: MissesCentre\n"
+        begins = (
+            f"{lines}: {one} WORD +16 16 | {two} WORD +16 16\nnone of 2 choices of the lines is known to be a game\n"
+            f"first goes furthest: {lines} is refused: MissesCentre\n"
+        )
         run.row([*told, *sheets], 1, f"{begins}{taken} is a game with one more change: {words}: WORD at 8E, not at 8D\n{ahead}")
     at = ">B: AT 9G AT +9 9\n"
     run.row(["build", "word-at-ra", "word-at-ra.gad"], 0)
@@ -2426,7 +2442,10 @@ def compared(run):
         ),
     ]:
         Path(run.folder, "itself").write_text(sheet)
-        begins = f"none of 1 choice of the lines is known to be a game\nthe record of both sheets goes furthest: line {refused} | line {refused} is refused: NotYourTurn\n"
+        begins = (
+            "none of 1 choice of the lines is known to be a game\n"
+            f"the record of both sheets goes furthest: line {refused} | line {refused} is refused: NotYourTurn\n"
+        )
         out = f"{begins}the record of both sheets is a game with one more change: {words}\nlegal unfinished\n{end}"
         run.row(["compare", "word-at-ra", "word-at-ra.gad", "itself", "itself"], 1, out)
     sheets_of_two(run)
@@ -2609,7 +2628,8 @@ def explained(run):
     named = (
         "latin-wrong",
         1,
-        "illegal line 2: WrongTotal 16\nline 2: >\u00c9va: DORWAAE 8E WORD +16 17\n\u00c9va had 0 and scores 16 on this line, which makes 16, but 17 is written.\n",
+        "illegal line 2: WrongTotal 16\nline 2: >\u00c9va: DORWAAE 8E WORD +16 17\n"
+        "\u00c9va had 0 and scores 16 on this line, which makes 16, but 17 is written.\n",
     )
     by_hand = "is ahead by 16; by the sheet"
     told(named[0], named[1], named[2] + WORD_SUMS + picture_of(2, True, WORD_MARKED) + f"\u00c9va {by_hand} \u00c9va is ahead by 17\n")
@@ -2628,12 +2648,18 @@ def explained(run):
     centre = "illegal line 1: MissesCentre\nline 1: >A: DORWAAE 8D WORD +16 16\nThe first play of a game has to cover 8H, and this one does not.\n"
     spot = "The same letters score 16 at 8E across, 8F across, 8G across and 5 other places.\n"
     told("line-8d", 1, centre + spot + picture_of(1, True, (ROW_OF_WORD[0], " 8 = . .[' . . .]- . . . ' . . =")))
-    short = "The game has 2 of the tile ?, but by what the lines up to this one show there would have to be 3: 0 on the board, 2 on A's rack and 1 on B's.\n"
+    short = (
+        "The game has 2 of the tile ?, but by what the lines up to this one show there would have to be 3: "
+        "0 on the board, 2 on A's rack and 1 on B's.\n"
+    )
     shown = "  line 1 shows 2 on A's rack\n  line 2 shows 1 on B's rack\n"
     told("blanks", 1, f"illegal line 2: TilesShort ?\nline 2: >B: ? - +0 0\n{short}{shown}" + picture_of(2, False))
     no_deal = "No deal of the tiles gives the players the racks that the lines up to this one show, though no single line shows too much.\n"
     alone = "Even if only these tiles were shown, no deal would give them:\n  line 1 shows AEINRST on A's rack\n  line 3 shows BCDFGHJ on A's rack\n"
-    exchanged = "Compare the racks with the exchanges:\n  line 1: A exchanges 1 tile\nUp to line 2 a deal of the tiles gives the players every rack that is shown.\n"
+    exchanged = (
+        "Compare the racks with the exchanges:\n  line 1: A exchanges 1 tile\n"
+        "Up to line 2 a deal of the tiles gives the players every rack that is shown.\n"
+    )
     told("one-of-seven", 1, f"illegal line 3: NoDeal\nline 3: >A: BCDFGHJ - +0 0\n{no_deal}{alone}{exchanged}" + picture_of(3, False))
     third = "bad record line 3: ThirdPlayer\nline 3: >C: - +0 0\nC is a third nickname: the players are A and B.\n"
     number = "bad record line 1: Number\nline 1: >A: 8E WORD +x 16\nThe score +x is not a number of 1 to 6 digits, with or without a sign.\n"
@@ -3037,7 +3063,8 @@ def hinted(run):
         "few": (
             "\ufeff bonus 50\n" + "".join(it for it in ENGLISH_RULES.splitlines(True) if it[:5] in ("tile ", "row 1") and "Q" not in it),
             "Missing",
-            "the rules text has no line for tile Q, row 2, row 3, row 4, row 5, row 6, row 7, row 8, row 9, exchange_min, zero_limit, challenge_unit, time_step",
+            "the rules text has no line for tile Q, row 2, row 3, row 4, row 5, row 6, row 7, row 8, row 9,"
+            " exchange_min, zero_limit, challenge_unit, time_step",
         ),
         "nineteen": (TWO_SETS.replace("A 18 1", "A 19 1"), "Limits", "the rules text has 201 tiles together, and may have 14 to 200"),
         "thirteen": (FOURTEEN.replace("A 2 1", "A 1 1"), "Limits", "the rules text has 13 tiles together, and may have 14 to 200"),
@@ -3153,7 +3180,10 @@ def in_json(run):
         )
     run.row(["check", "--json", "--json", "at", "at.gad"], 64, error=None)
     audit = ["audit", "--json", "word", "word.gad"]
-    keys = '{"verdict":"%s","line":%s,"fault":%s,"ending":%s,"players":[{"nick":"A","name":null},{"nick":null,"name":null}],"wrong":[%s],"ahead":{"player":1,"by":16},"ahead_by_sheet":{"player":1,"by":%d},"amount":null,"unread_lines":[]}\n'
+    keys = (
+        '{"verdict":"%s","line":%s,"fault":%s,"ending":%s,"players":[{"nick":"A","name":null},{"nick":null,"name":null}],"wrong":[%s],'
+        '"ahead":{"player":1,"by":16},"ahead_by_sheet":{"player":1,"by":%d},"amount":null,"unread_lines":[]}\n'
+    )
     event = '"line":1,"player":1,"nick":"A","kind":"play","place":"8E","direction":"across","text":"WORD"'
     score, total = f'{{"wrong":"score",{event},"written":18,"sum":null,"right":16}}', '"kind":null,"place":null,"direction":null,"text":null'
     last = f'{{"wrong":"last total","line":null,"player":1,"nick":"A",{total},"written":%d,"sum":null,"right":16}}'
@@ -3174,8 +3204,8 @@ def in_json(run):
     run.row(
         [*audit, "nothing"],
         3,
-        '{"verdict":"no game","line":null,"fault":null,"ending":null,"players":[%s,%s],"wrong":[],"ahead":null,"ahead_by_sheet":null,"amount":null,"unread_lines":[]}\n'
-        % (('{"nick":null,"name":null}',) * 2),
+        '{"verdict":"no game","line":null,"fault":null,"ending":null,"players":[%s,%s],"wrong":[],'
+        '"ahead":null,"ahead_by_sheet":null,"amount":null,"unread_lines":[]}\n' % (('{"nick":null,"name":null}',) * 2),
     )
     run.row([*audit, "third"], 3, refusal("bad record", 3, {"name": "ThirdPlayer"}))
     run.row([*audit, "nowhere"], 4, refusal("cannot open", file="nowhere"), error="referee: cannot open nowhere: no such file")
@@ -3270,7 +3300,10 @@ def objects(run, pair):
 def faulty(run, pair):
     """Each line that begins with > and is not an event is named."""
     first = "The score +x is not a number of 1 to 6 digits, with or without a sign."
-    code = "8H is not an event: an event is a play with its position, word, score and total, or one of the codes -, --, -TILES, -NUMBER, (challenge), (time) and (TILES)."
+    code = (
+        "8H is not an event: an event is a play with its position, word, score and total, "
+        "or one of the codes -, --, -TILES, -NUMBER, (challenge), (time) and (TILES)."
+    )
     bad = "bad record line 1: Number\n"
     word, last = "The word of the play is missing.", "AEINRST is not an event" + code.removeprefix("8H is not an event")
     lacks = "The score or the total is missing: an event ends with both."
@@ -3352,8 +3385,8 @@ def on_drafts(run):
 
     sums, fits = WORD_SUMS + picture_of(1, True, WORD_MARKED), "With 16 the total is 16, as is written.\n"
     turn = (
-        "illegal line 2: NotYourTurn\nline 2: >A: -\nIt is the other player's turn, not A's.\nIf this is a line of the other player, the rules allow it.\n"
-        + picture_of(2, False, ROW_OF_WORD)
+        "illegal line 2: NotYourTurn\nline 2: >A: -\nIt is the other player's turn, not A's.\n"
+        "If this is a line of the other player, the rules allow it.\n" + picture_of(2, False, ROW_OF_WORD)
     )
     total = (
         "illegal line 3: WrongTotal 16\nline 3: >A: - +0 18\nA had 16 and scores 0 on this line, which makes 16, but 18 is written.\n"

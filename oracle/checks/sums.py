@@ -1,10 +1,10 @@
 """Compares extra/rt with the `rt` that it starts: sums FOLDER
 
-The toolchains are made up here: one whose `rt` makes the sum of a crate, and the list of the crates below it, again for each path to it, one that keeps
-both itself, and one that is not a script in Python. With each of them extra/rt has to print the same and to end with the same status, and with the first
-it has to read the file of each crate once for each sum that is asked for, and to make each list once. A file that changes between two sums has to change
-the second. If the machine has a toolchain that makes sums and lists like the first, those of crates of FOLDER, which has a crates.txt, are compared too.
-Nothing is proved here.
+The toolchains are made up here: one whose `rt` makes the sum of a crate, and the list of the crates below it, again for each path to it, one that
+keeps both itself, and one that is not a script in Python. With each of them extra/rt has to print the same and to end with the same status, and with
+the first it has to read the file of each crate once for each sum that is asked for, and to make each list once. A file that changes between two sums
+has to change the second. If the machine has a toolchain that makes sums and lists like the first, those of crates of FOLDER, which has a crates.txt,
+are compared too. Nothing is proved here.
 """
 import os
 import shutil

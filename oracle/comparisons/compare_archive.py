@@ -28,7 +28,8 @@ def text_from(events):
 
 
 def dealt_games(rules):
-    """A game that was dealt for real, and the same with a rack spoiled: the bytes, the listed words, what was taken back, and whether it was dealt."""
+    """A game that was dealt for real, and the same with a rack spoiled: the bytes, the listed words, what was taken back, and whether it was
+    dealt."""
     dealer = Dealer(rules, choose([4, 25, 40]), choose([(), BOTH, BOTH]), choose(STYLES), choose([4, 15, 40]))
     events, _, listed = dealer.game()
     yield text_from(events), set(listed) - dealer.phonies, dealer.phonies, True

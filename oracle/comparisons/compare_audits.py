@@ -1,11 +1,10 @@
 """Compares `referee audit` with sheets whose mistakes are known, and with the second judge: compare_audits PROGRAM CASES SEED
 
 Each game is dealt for real. Of every five cases two have one wrong score that is carried on in the totals, two one sum that is wrong,
-carried on or not, and one both: the program has to tell exactly these, and the corrected record has to be the sheet with the true numbers, which is otherwise the
-text that was given: its notes, blanks, ends of lines and the form of the numbers that are right. Then as many
-games that nobody dealt have some numbers changed at random, and the second judge says what is to be told of them. Where a bonus or a penalty would
-explain the numbers, that is told too, and the record is not written; each that is told is compared with the second judge, and of the others that may have
-one the first four.
+carried on or not, and one both: the program has to tell exactly these, and the corrected record has to be the sheet with the true numbers, which is
+otherwise the text that was given: its notes, blanks, ends of lines and the form of the numbers that are right. Then as many games that nobody dealt
+have some numbers changed at random, and the second judge says what is to be told of them. Where a bonus or a penalty would explain the numbers, that
+is told too, and the record is not written; each that is told is compared with the second judge, and of the others that may have one the first four.
 """
 import random
 from dataclasses import replace
@@ -118,7 +117,8 @@ class Sheets(Differences):
     """Sheets with mistakes."""
 
     def amount(self, events, listed, rules, lines):
-        """The lines without what is said of a bonus or a penalty, and whether the corrected record is kept for its sake, which the second judge has to find too."""
+        """The lines without what is said of a bonus or a penalty, and whether the corrected record is kept for its sake, which the second judge has
+        to find too."""
         rest, said = without_amount(lines)
         may_be = off_by_units(events, *corrected_to(events, listed, rules), rules)
         self.seen["a bonus or a penalty"] += bool(said)

@@ -1,10 +1,10 @@
 """Compares `referee fill` with records of which numbers were left out, and with the second judge: compare_drafts PROGRAM CASES SEED
 
 Each game is dealt for real. Of its record some totals, and some scores with their totals, are left out, and the program has to give the record back
-byte for byte: its notes, blanks, ends of lines and the form of the numbers that are written. In every third case one or two of the written numbers are
-wrong, and the second judge, which reads the draft by its own code, says what is to be told and what the record is then. As many games that nobody dealt
-are compared with it too, and drafts that were damaged at random. Last come broken drafts: the second judge says which line is at fault, and which field it
-lacks or has too many. The objects of `--json` and the answers of `serve` have to say the same.
+byte for byte: its notes, blanks, ends of lines and the form of the numbers that are written. In every third case one or two of the written numbers
+are wrong, and the second judge, which reads the draft by its own code, says what is to be told and what the record is then. As many games that nobody
+dealt are compared with it too, and drafts that were damaged at random. Last come broken drafts: the second judge says which line is at fault, and
+which field it lacks or has too many. The objects of `--json` and the answers of `serve` have to say the same.
 """
 import json
 import random

@@ -2,7 +2,8 @@
 
 Each case is a game that nobody dealt, or one that was dealt for real with mistakes of a director's day (`mistakes.py`). The verdict is
 explained, and then one of the lines. The likely repair, with which the explanation of an illegal record may end, is compared by
-`compare_repairs`. Who is ahead by the right numbers comes last, if a number is wrong and there is no likely repair. The last line says how often each fault was explained.
+`compare_repairs`. Who is ahead by the right numbers comes last, if a number is wrong and there is no likely repair. The last line says how often each
+fault was explained.
 """
 import random
 

@@ -1,8 +1,8 @@
 """Compares the objects that the program prints for programs with the second judge: compare_objects PROGRAM CASES SEED
 
 Each case is a game that nobody dealt, or one that was dealt for real with mistakes of a director's day (`mistakes.py`), sometimes with an input
-that is bad. The objects of `judge`, `judge --settle`, `audit`, `explain`, `top`, `board` and `check` are compared key by key with the values of the second judge,
-and the exit status with that of the report. What was seen of events, turns and faults is counted.
+that is bad. The objects of `judge`, `judge --settle`, `audit`, `explain`, `top`, `board` and `check` are compared key by key with the values of the
+second judge, and the exit status with that of the report. What was seen of events, turns and faults is counted.
 """
 import json
 import random

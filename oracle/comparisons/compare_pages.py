@@ -72,7 +72,8 @@ class Pages(Differences):
         return ran, (self.folder / "out").read_bytes() if (self.folder / "out").exists() else None
 
     def results(self, by_the_sheet, game, events, lines, listed, rules, page):
-        """What may be said of the result: who is ahead by the right numbers if one is wrong and no likely repair is shown, or else by those of the sheet."""
+        """What may be said of the result: who is ahead by the right numbers if one is wrong and no likely repair is shown, or else by those of the
+        sheet."""
         nicks = [player[0].decode("latin-1") if player else "" for player in read(game)[0]]
         wrong, verdicts = audits.ways(events, listed, rules, lines, nicks)
         if not wrong or b'<p class="why likely">' in page:

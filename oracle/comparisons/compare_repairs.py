@@ -1,13 +1,13 @@
 """Compares `referee repair` with worked records and with the second judge: compare_repairs PROGRAM CASES SEED
 
 The worked records are those of `repair_rows`: the first repair has to be the known one, with its cost, its line and what stands there then. Then as
-many games that were dealt for real have one slip of the pen, and the second judge lists the repairs: those that are told have to be the same, with the
-same costs, as far as both tell them. Each third game has two slips, and the pairs of changes are compared. Of as many short games with few tiles
-all that is told has to be the same, in the same order, and so has the object of `repair --json` of each record of which all is known. Of a record with more
-changes than are tried it has to be told which are not. A record is passed over if it is not known of some change what a search for its deal finds: the rule of
-completion leaves it open, and the record names too many kinds for the second judge to try all deals and all cuts (`settlings.py`); or if the program may end
-its search for pairs before it comes to one (`pairs.py`). The words of `compare` for one more change, of a worked record and itself, have to be those of its
-first repair, and the line of `archive --repairs` has to say the likely one.
+many games that were dealt for real have one slip of the pen, and the second judge lists the repairs: those that are told have to be the same, with
+the same costs, as far as both tell them. Each third game has two slips, and the pairs of changes are compared. Of as many short games with few tiles
+all that is told has to be the same, in the same order, and so has the object of `repair --json` of each record of which all is known. Of a record
+with more changes than are tried it has to be told which are not. A record is passed over if it is not known of some change what a search for its deal
+finds: the rule of completion leaves it open, and the record names too many kinds for the second judge to try all deals and all cuts (`settlings.py`);
+or if the program may end its search for pairs before it comes to one (`pairs.py`). The words of `compare` for one more change, of a worked record and
+itself, have to be those of its first repair, and the line of `archive --repairs` has to say the likely one.
 """
 import json
 import random
@@ -155,8 +155,8 @@ def singles_told(differences):
 
 
 def extra_change(differences, rules, listed, text):
-    """Compares the words in which `compare` tells of one more change, of a record and itself: those of the first change by the list that repairs it. If it
-    needs none but right numbers, none is told."""
+    """Compares the words in which `compare` tells of one more change, of a record and itself: those of the first change by the list that repairs it.
+    If it needs none but right numbers, none is told."""
     events, nicks = events_of(text), nicks_in(text)
     front = Front(rules, events, listed)
     found = repairs_below(front, inf) if most_left(front) == inf else []
@@ -171,8 +171,8 @@ def extra_change(differences, rules, listed, text):
 
 
 def texts(differences, rules, listed, text, name, is_whole=True):
-    """Compares all that is printed of an illegal record after the verdict line, if the second judge knows of every change what a search for its deal finds; and
-    the object of the whole."""
+    """Compares all that is printed of an illegal record after the verdict line, if the second judge knows of every change what a search for its deal
+    finds; and the object of the whole."""
     events = events_of(text)
     if not all(it.is_known for it in repairs(events, listed, rules)):
         return
@@ -203,7 +203,8 @@ def known_pairs(differences, rules, listed, events):
 
 
 def likely(differences, events, listed, text, found, two):
-    """Compares how the explanation of an illegal record ends: with its likely repair, with a bonus or a penalty if a total is wrong, or with neither."""
+    """Compares how the explanation of an illegal record ends: with its likely repair, with a bonus or a penalty if a total is wrong, or with
+    neither."""
     names = names_in(text)
     said = differences.run("explain", "words", "lexicon", "game").stdout.decode()
     told = said[said.index("\nLikely: ") + 1 :] if "\nLikely: " in said else ""

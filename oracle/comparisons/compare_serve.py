@@ -1,10 +1,10 @@
 """Compares the answers of `serve` with the second judge and with the commands: compare_serve PROGRAM CASES SEED
 
-Each case is a word list with its lexicon, sometimes with a rules text, and a process of `serve` by these. It is asked of games that nobody dealt, of games
-that were dealt for real with mistakes of a director's day, and of damaged records, by every command; some lines are no requests. Games are judged as they go
-on, some of them twice, and turns with the same rack on other boards and with another rack on the same board, so that best plays that are known have to be
-those of the board and the rack. Each answer is compared with the value of the second judge, and some with what the command of that name writes of the same
-bytes. If an input is bad, the process has to say so as `check --json` does, and to end.
+Each case is a word list with its lexicon, sometimes with a rules text, and a process of `serve` by these. It is asked of games that nobody dealt, of
+games that were dealt for real with mistakes of a director's day, and of damaged records, by every command; some lines are no requests. Games are
+judged as they go on, some of them twice, and turns with the same rack on other boards and with another rack on the same board, so that best plays
+that are known have to be those of the board and the rack. Each answer is compared with the value of the second judge, and some with what the command
+of that name writes of the same bytes. If an input is bad, the process has to say so as `check --json` does, and to end.
 """
 import json
 import random

@@ -1,13 +1,13 @@
 """Compares `referee compare` with what the second judge says of merged records: compare_sheets PROGRAM CASES SEED
 
-Games that were dealt for real are written by two players, each with the own racks and with none, one or two slips of the pen. A sheet and itself have to agree.
-Where both write every rack, and some of them not as they were, all choices of the racks are tried by the second judge: the merged record has to be the game
-with the fewest racks that are not from the player's own sheet.
-A merged record has to be a game by the second judge, if that does not leave open whether a deal fits, of lines that are on the sheets; where no choice of
-them makes a game, one event of it may be on neither. What is said of last totals and of who won has to follow
-from it. The object of `compare --json` has to say the same: its lines are made by `comparison_texts.py` and compared with those of the program. Where the
-second judge knows the object (`comparisons.py`), it has to be that one. Four pairs of sheets come first of which a choice is left open.
-The last line says how often the merged record is the true one, and how often it was repaired.
+Games that were dealt for real are written by two players, each with the own racks and with none, one or two slips of the pen. A sheet and itself have
+to agree. Where both write every rack, and some of them not as they were, all choices of the racks are tried by the second judge: the merged record
+has to be the game with the fewest racks that are not from the player's own sheet. A merged record has to be a game by the second judge, if that does
+not leave open whether a deal fits, of lines that are on the sheets; where no choice of them makes a game, one event of it may be on neither. What is
+said of last totals and of who won has to follow from it. The object of `compare --json` has to say the same: its lines are made by
+`comparison_texts.py` and compared with those of the program. Where the second judge knows the object (`comparisons.py`), it has to be that one. Four
+pairs of sheets come first of which a choice is left open. The last line says how often the merged record is the true one, and how often it was
+repaired.
 """
 import json
 import random
@@ -217,7 +217,8 @@ def case(differences, number):
 
 
 def left_open(differences):
-    """Sheets of a game that nobody can have dealt although no search shows it, and of one that was dealt: the second judge knows what is left open."""
+    """Sheets of a game that nobody can have dealt although no search shows it, and of one that was dealt: the second judge knows what is left
+    open."""
     known = differences.seen["whole objects"]
     for first, second in [(NOT_DEALT.replace(*other), NOT_DEALT) for other in (("-1 ", "-2 "), ("B: Z", "B: E"))]:
         for sheets in ((first, second), (second, first)):

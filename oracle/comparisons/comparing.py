@@ -42,8 +42,8 @@ class Differences:
 
 
 def without_lead(printed, leads):
-    """What `explain` prints of a record, without the line that says who is ahead by the right numbers; whether that is one of these, or nothing if the
-    record has a likely repair."""
+    """What `explain` prints of a record, without the line that says who is ahead by the right numbers; whether that is one of these, or nothing if
+    the record has a likely repair."""
     if b"\nLikely: " in printed:
         return printed, True
     lead = max((it for it in leads if printed.endswith(b"\n" + it)), key=len, default=None)

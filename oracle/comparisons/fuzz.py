@@ -2,8 +2,8 @@
 of it: fuzz PROGRAM SECONDS SEED
 
 Each round makes a game that was dealt for real, its list and its lexicon in either format, damages some of them, and runs `judge`,
-`audit`, `explain`, `page`, `annotate`, `check`, `build`, `convert`, `tidy`, `top` and `board` on them; some rounds judge by a rules text, which may be damaged too. Statuses, outputs
-and the files of `build` and `convert` have to be those of the second judge.
+`audit`, `explain`, `page`, `annotate`, `check`, `build`, `convert`, `tidy`, `top` and `board` on them; some rounds judge by a rules text, which may
+be damaged too. Statuses, outputs and the files of `build` and `convert` have to be those of the second judge.
 """
 import random
 import subprocess
@@ -152,7 +152,8 @@ class Fuzzer:
             print(*words, "status", ran.returncode, ran.stdout, ran.stderr, "for", ways[:2], self.game.read_bytes(), sep="\n  ")
 
     def explain(self, by, words, lexicon, game, text):
-        """`explain`, of the verdict or of a line: after the verdict line, of which one of some has to come, each byte is known up to the likely repair."""
+        """`explain`, of the verdict or of a line: after the verdict line, of which one of some has to come, each byte is known up to the likely
+        repair."""
         asked = choose([None, None, random.randint(0, game.count(b"\n") + 2)])
         named = [] if asked is None else [str(asked)]
         line_ = [self.program, "explain", *by, self.words, self.lexicon, self.game, *named]

@@ -1,8 +1,8 @@
 """Asks `serve` random lines: fuzz_serve PROGRAM LINES SEED
 
-The lines are requests that were damaged, cut, doubled or joined: broken JSON, deep nesting, huge numbers, NUL, bytes that are no UTF-8, long lines, and an end
-without an LF. Each has to get an answer of the right form, in its order, none lost and none doubled, and one that is no request by the second judge the
-status 64, and no other.
+The lines are requests that were damaged, cut, doubled or joined: broken JSON, deep nesting, huge numbers, NUL, bytes that are no UTF-8, long lines,
+and an end without an LF. Each has to get an answer of the right form, in its order, none lost and none doubled, and one that is no request by the
+second judge the status 64, and no other.
 """
 import json
 import random

@@ -1,11 +1,11 @@
 """How often the repairs of a sheet have the true record, for sheets with one slip of the pen: repair_figures PROGRAM RECORDS SEED
 
 Each sheet is a game that was dealt and played for real to its end, with one slip of a known kind and the numbers of the true game, as a scorer writes
-them. A third of the sheets state both players' racks, a third one player's, and a third none. With `none` for PROGRAM the second judge finds the repairs.
-For each kind the table says how many sheets are faulty, and for how many of these the true record is among the repairs, is the first of them, and
-is on the first line or one of the first three. The last rows are of sheets that stop in the middle of the game, with one slip of any kind, and of
-sheets of whole games with two. Pairs of changes that are told count as repairs. Then come the lines in the mean, and the seconds of processor time
-for a record in the mean, at 95 of 100, and at most; of the program that is its whole process, with the reading of its files.
+them. A third of the sheets state both players' racks, a third one player's, and a third none. With `none` for PROGRAM the second judge finds the
+repairs. For each kind the table says how many sheets are faulty, and for how many of these the true record is among the repairs, is the first of
+them, and is on the first line or one of the first three. The last rows are of sheets that stop in the middle of the game, with one slip of any kind,
+and of sheets of whole games with two. Pairs of changes that are told count as repairs. Then come the lines in the mean, and the seconds of processor
+time for a record in the mean, at 95 of 100, and at most; of the program that is its whole process, with the reading of its files.
 """
 import json
 import random

@@ -83,8 +83,9 @@ LINES = [
     (ENGLISH, "ZA", ZA + ">B: AABCDDZ -AZ +0 0\n>A: - +0 22\n", 26),
 ]
 
-# A game that nobody can have dealt, although no search shows it: A has Q and Z and throws one tile, so one of them stays with A, but B has both, one after
-# the other. B throws the Q and draws seven other tiles before it has the Z, so whichever kinds are counted together, no place has more of them than it may.
+# A game that nobody can have dealt, although no search shows it: A has Q and Z and throws one tile, so one of them stays with A, but B has both, one
+# after the other. B throws the Q and draws seven other tiles before it has the Z, so whichever kinds are counted together, no place has more of them
+# than it may.
 NOT_DEALT = ">A: QZ -1 +0 0\n>B: -7 +0 0\n>A: 8G JX +32 32\n>B: Q -7 +0 0\n>A: - +0 32\n>B: -7 +0 0\n>A: - +0 32\n>B: Z - +0 0\n"
 SHORT_OF = NOT_DEALT.replace("+32 32", "+16 16").replace("+0 32", "+0 16")
 OPEN_ALONE = "with only the numbers corrected it may be a game: no deal was found\n"

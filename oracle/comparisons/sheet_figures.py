@@ -1,8 +1,8 @@
 """How often `referee compare` merges two players' sheets into the true record: sheet_figures PROGRAM PAIRS SEED
 
-Each pair of sheets is a game that was dealt and played for real to its end, as its two players write it: each with their own racks, and with so many slips
-of the pen. The table says for each number of slips how many pairs were merged, for how many of these the record is the true one, how many sheets of player
-1 alone are, and the seconds of processor time of the program in the mean and at 95 of 100, with the reading of its files.
+Each pair of sheets is a game that was dealt and played for real to its end, as its two players write it: each with their own racks, and with so many
+slips of the pen. The table says for each number of slips how many pairs were merged, for how many of these the record is the true one, how many
+sheets of player 1 alone are, and the seconds of processor time of the program in the mean and at 95 of 100, with the reading of its files.
 """
 import random
 import resource
@@ -42,8 +42,8 @@ def merged(program, folder, sheets, listed):
 
 
 def happened(events, listed):
-    """What happened in a record: whatever the racks are, whether a tile of the board is a dot or a letter, and whether the tiles of an exchange are known.
-    Of a record that the rules refuse it is what is written."""
+    """What happened in a record: whatever the racks are, whether a tile of the board is a dot or a letter, and whether the tiles of an exchange are
+    known. Of a record that the rules refuse it is what is written."""
     taken = Front(ENGLISH, events, listed).taken
     if len(taken) < len(events):
         return [bare(event) for event in events]

@@ -2,8 +2,8 @@
 
 Each sheet is a game that was dealt and played for real, with every rack on its line, and one slip of a known kind. The first line says how many
 sheets of each kind were made; the table, of how many the program told a fault, named the cause first among all that it names, and named it at all.
-A second table is of sheets that `referee repair` mends by one of their lines or by the whole of them: of how many it told a fault, told the cause first, and
-with `--repaired` wrote the sheet, and how many of these sheets are not of the true game.
+A second table is of sheets that `referee repair` mends by one of their lines or by the whole of them: of how many it told a fault, told the cause
+first, and with `--repaired` wrote the sheet, and how many of these sheets are not of the true game.
 """
 import json
 import random

@@ -37,8 +37,8 @@ def next_plays(events, place, listed, rules, number):
 
 
 def notes_of(game, players, events, listed, rules, verdict, number=1, printed=""):
-    """A note for each event of a record with this settled verdict line, up to the faulty line, whose note says why it is refused. Where no deal gives the
-    racks, what was `printed` says what was found of them."""
+    """A note for each event of a record with this settled verdict line, up to the faulty line, whose note says why it is refused. Where no deal gives
+    the racks, what was `printed` says what was found of them."""
     lines = lines_of(game)
     illegal = re.match("illegal line ([0-9]+):", verdict)
     place = next(k for k, line in enumerate(lines) if line >= int(illegal[1])) if illegal else len(events)

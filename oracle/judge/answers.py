@@ -110,8 +110,8 @@ def audited(words, lexicon, game, text=None):
 
 
 def explained(words, lexicon, game, asked, printed, text=None):
-    """What `explain` is to print of a record, or of a line where one is asked for, with the verdict that was printed, if that can be. Where no deal gives the
-    racks, what was printed says what was found of them."""
+    """What `explain` is to print of a record, or of a line where one is asked for, with the verdict that was printed, if that can be. Where no deal
+    gives the racks, what was printed says what was found of them."""
     told = printed.split(b"\n")[0]
 
     def sentences(listed, players, events, rules):
@@ -130,8 +130,8 @@ def explained(words, lexicon, game, asked, printed, text=None):
 
 
 def lead_of(words, lexicon, game, text=None):
-    """The lines that may be said of a sheet as a whole if a number of it is wrong: who is ahead by the right numbers, and by the sheet if that is not the
-    same. They are empty if no number is wrong, or if the rules do not allow the corrected record."""
+    """The lines that may be said of a sheet as a whole if a number of it is wrong: who is ahead by the right numbers, and by the sheet if that is not
+    the same. They are empty if no number is wrong, or if the rules do not allow the corrected record."""
 
     def leads(listed, players, events, rules):
         nicks = [player[0].decode("latin-1") if player else "" for player in players]

@@ -58,9 +58,9 @@ def last_totals(events):
 
 
 def wrong_numbers(events, right, stop, numbers=None, nicks="AB"):
-    """The lines of the wrong scores and sums of a sheet, and of the last totals where it has a correction: where that does not stop at a place. A sum is
-    wrong if it is neither what the line before it gives nor, as far as the correction goes, the right total. A last total is told by its line if its
-    sum is wrong."""
+    """The lines of the wrong scores and sums of a sheet, and of the last totals where it has a correction: where that does not stop at a place. A sum
+    is wrong if it is neither what the line before it gives nor, as far as the correction goes, the right total. A last total is told by its line if
+    its sum is wrong."""
     numbers = numbers or range(1, len(events) + 1)
     told, had, by_line = [], {}, {}
     for place, (number, written, other) in enumerate(zip(numbers, events, right)):

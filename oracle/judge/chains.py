@@ -1,8 +1,8 @@
 """Chains of changes that repair a record with several slips, by the second judge.
 
-Each step is the cheapest head that concerns lines of the sheet: a change with which the rules allow the first refused event too. After each step the first
-repair of the record that it makes is the last change, if it costs little enough. The first step may cost less than a wrong number, and each change after
-it a wrong number more.
+Each step is the cheapest head that concerns lines of the sheet: a change with which the rules allow the first refused event too. After each step the
+first repair of the record that it makes is the last change, if it costs little enough. The first step may cost less than a wrong number, and each
+change after it a wrong number more.
 """
 from dataclasses import dataclass
 from math import inf

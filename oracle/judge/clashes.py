@@ -54,7 +54,8 @@ def shown_alone(places, lines, clash):
 
 
 def some_kinds(places, turns):
-    """Kinds that may be counted: those that some turns show and the others do not; the rest are counted all, or not at all, or where they are used."""
+    """Kinds that may be counted: those that some turns show and the others do not; the rest are counted all, or not at all, or where they are
+    used."""
     used = {kind for place in places for kind in place.used | place.throws()}
     for counts in product((True, False), repeat=min(len(turns), 10)):
         within = {kind for tiles, it in zip(turns, counts) if it for kind in tiles}

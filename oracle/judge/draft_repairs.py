@@ -15,8 +15,8 @@ def lacks_with(change, lacks):
 
 
 def wrong_numbers(changed, right, lacks):
-    """The numbers of a draft that are written and wrong: the place of each, what it is, what is written and what is right. What a player has after a line whose
-    total is missing is what the player had and the score, and the right one if that is missing too."""
+    """The numbers of a draft that are written and wrong: the place of each, what it is, what is written and what is right. What a player has after a
+    line whose total is missing is what the player had and the score, and the right one if that is missing too."""
     told, had = [], [0, 0]
     for place, (one, other, missing) in enumerate(zip(changed, right, lacks)):
         before = had[one.player]
@@ -45,7 +45,8 @@ class DraftFront(Front):
 
 
 def draft_repairs(events, lacks, listed, rules=ENGLISH):
-    """The repairs of a draft, in the order of the rank; what it is with right numbers alone, if that may be a game; and how many changes were tried."""
+    """The repairs of a draft, in the order of the rank; what it is with right numbers alone, if that may be a game; and how many changes were
+    tried."""
     front = DraftFront(rules, events, listed, lacks)
     most = most_left(front)
     finder = Finder(events, listed, rules) if most > 1 else None

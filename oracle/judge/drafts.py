@@ -1,4 +1,5 @@
-"""A slow second reading of drafts, which are records whose event lines may lack the total, or the score and the total; and what makes a record of one.
+"""A slow second reading of drafts, which are records whose event lines may lack the total, or the score and the total; and what makes a record of
+one.
 
 A line is read from the left, field by field, and no number is put in before it is read.
 """
@@ -164,7 +165,8 @@ def filled_text(draft, written, numbers):
 
 @dataclass
 class Filled:
-    """What is found of a draft: the right numbers as far as they go, where they stop, what is wrong with the written ones, and how many were put in."""
+    """What is found of a draft: the right numbers as far as they go, where they stop, what is wrong with the written ones, and how many were put
+    in."""
 
     right: list
     stop: int

@@ -334,8 +334,8 @@ def whole_facts(verdict, events, lines, listed, rules):
 
 
 def explained_keys(verdict, game, events, lines, listed, rules, asked, dealt=False):
-    """The keys of an explanation after those of the verdict; none where no event is on the line that was asked for, or after it. What repair is likely
-    is not looked for: `without_likely` takes it off an object."""
+    """The keys of an explanation after those of the verdict; none where no event is on the line that was asked for, or after it. What repair is
+    likely is not looked for: `without_likely` takes it off an object."""
     illegal = re.match("illegal line ([0-9]+):", verdict)
     wanted = asked if asked is not None else int(illegal[1]) if illegal else None
     nothing = {"play": None, "board": None, "unknown_since": None, "likely": None}

@@ -119,8 +119,8 @@ def in_words(items, last="and"):
 
 
 def spots_text(scene):
-    """Where the text of a play has the written score and the record stands with it to its end: the places at which each word is in the list, where there
-    is one, and else all; three are named at the most."""
+    """Where the text of a play has the written score and the record stands with it to its end: the places at which each word is in the list, where
+    there is one, and else all; three are named at the most."""
     event, found, listed = scene.event, [], []
     for direction in (ACROSS, ACROSS[::-1]):
         for at in [(row, column) for row in range(SIDE) for column in range(SIDE)]:
@@ -249,7 +249,10 @@ def latest_of(scene):
 
 def wrong_total(scene, right):
     event = scene.event
-    told = f"{scene.nick} had {scene.game.totals[event.player]} and scores {event.score} on this line, which makes {right}, but {event.total} is written.\n"
+    told = (
+        f"{scene.nick} had {scene.game.totals[event.player]} and scores {event.score} on this line, "
+        f"which makes {right}, but {event.total} is written.\n"
+    )
     short = right - event.total
     if event.score == short:
         return told + "The written total leaves out the score of this line.\n"
@@ -383,8 +386,8 @@ def must_have(places, player, now):
 
 
 def left_over(places, now):
-    """If the line of a place shows a whole rack, and fewer tiles of a kind than the lines before it leave there: the last of these lines, what is left, the
-    kind, and how many the line shows of it."""
+    """If the line of a place shows a whole rack, and fewer tiles of a kind than the lines before it leave there: the last of these lines, what is
+    left, the kind, and how many the line shows of it."""
     holder, latest, left = places[now].holder, None, Counter()
     for k in range(epoch(places, holder, now), now):
         if places[k].holder == holder and places[k].need.total():
@@ -424,8 +427,8 @@ def tiles_short(places, now, lines, nicks, kind, rules):
     laid = sum(it.used[kind] for it in places[:now] if it.stands)
     first, second = (must_have(places, player, now)[kind] for player in (0, 1))
     told = [
-        f"The game has {rules.tiles[kind]} of the tile {kind}, but by what the lines up to this one show there would have to be {laid + first + second}: "
-        f"{laid} on the board, {first} on {nicks[0]}'s rack and {second} on {nicks[1]}'s."
+        f"The game has {rules.tiles[kind]} of the tile {kind}, but by what the lines up to this one show "
+        f"there would have to be {laid + first + second}: {laid} on the board, {first} on {nicks[0]}'s rack and {second} on {nicks[1]}'s."
     ]
     for k, it in enumerate(places[: now + 1]):
         if it.holder is None or not it.need[kind]:
@@ -572,8 +575,8 @@ def line_of(game, line):
 
 
 def judged_text(events, lines, at, listed, rules, nicks, verdict, printed=""):
-    """What is said of the event at a place: that it is allowed, what is wrong with it, or that it was not judged. Where no deal gives the racks, what was
-    `printed` says what was found of them."""
+    """What is said of the event at a place: that it is allowed, what is wrong with it, or that it was not judged. Where no deal gives the racks, what
+    was `printed` says what was found of them."""
     game = Game(rules)
     for k in range(at):
         try:

@@ -226,8 +226,8 @@ def said_lines(game):
 
 
 def expected(verdict, players, events, lines, listed, rules, words, rules_text=None, game=b"", latin=False, printed=""):
-    """What is to be on the page of a record with this settled verdict line; `words` are the bytes of the list, `game` those of the record. Where no deal
-    gives the racks, what was `printed` says what was found of them."""
+    """What is to be on the page of a record with this settled verdict line; `words` are the bytes of the list, `game` those of the record. Where no
+    deal gives the racks, what was `printed` says what was found of them."""
     illegal = re.match("illegal line ([0-9]+):", verdict)
     place_at = next(k for k, line in enumerate(lines) if line >= int(illegal[1])) if illegal else None
     nicks = [player[0].decode("latin-1") if player else "the other player" for player in players]

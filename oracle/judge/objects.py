@@ -1,5 +1,5 @@
-"""What `judge`, `audit`, `explain`, `top`, `board` and `check` are to print with `--json`, as an object, by the second judge: from the bytes of the inputs to the
-value of each key."""
+"""What `judge`, `audit`, `explain`, `top`, `board` and `check` are to print with `--json`, as an object, by the second judge: from the bytes of the
+inputs to the value of each key."""
 import re
 
 import rules_texts
@@ -192,7 +192,8 @@ def ahead_keys(verdict, events, right):
 
 
 def audited_objects(words, lexicon, game, text=None):
-    """The objects that `audit --json` may print, but for a bonus or a penalty that would explain the numbers: `without_amount` takes it off an object."""
+    """The objects that `audit --json` may print, but for a bonus or a penalty that would explain the numbers: `without_amount` takes it off an
+    object."""
 
     def objects(listed, players, events, rules):
         right, stop = corrected_to(events, listed, rules)

@@ -102,8 +102,9 @@ def is_likely(single):
 @remembered
 def pairs(events, listed, rules=ENGLISH):
     """The pairs that repair a record, each resulting record once, those that cost least first. They are looked for if the first single repair is not
-    likely, and each costs less than any. Also whether of each second change it is known whether a deal fits, and whether the program comes to it: a record
-    that the rules allow to its end with the head alone is searched only for a number of steps, the last lines first, and steps are not counted here.
+    likely, and each costs less than any. Also whether of each second change it is known whether a deal fits, and whether the program comes to it: a
+    record that the rules allow to its end with the head alone is searched only for a number of steps, the last lines first, and steps are not counted
+    here.
     """
     singles = [it for it in repairs(events, listed, rules) if it.dealt]
     least = min((it.cost for it in singles), default=inf)

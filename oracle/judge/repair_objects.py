@@ -1,5 +1,5 @@
-"""What `repair --json` is to print, as an object, by the second judge: what repairs a record, with the names of the slips, the lines that come in the place
-of others and the evidence; and the events of the sheet that is to be kept."""
+"""What `repair --json` is to print, as an object, by the second judge: what repairs a record, with the names of the slips, the lines that come in the
+place of others and the evidence; and the events of the sheet that is to be kept."""
 from dataclasses import dataclass
 from math import inf
 
@@ -44,7 +44,8 @@ RUNNING = {  # the name of a slip that runs through a sheet, by what is said of 
 
 @dataclass
 class Repaired:
-    """An object; whether it has all that is found, or only the verdict of an illegal record; and the events of the sheet that is to be kept, if one is."""
+    """An object; whether it has all that is found, or only the verdict of an illegal record; and the events of the sheet that is to be kept, if one
+    is."""
 
     told: dict
     is_whole: bool = True
@@ -144,8 +145,8 @@ def slip_name(change, events):
 
 
 def evidence(repair, own):
-    """How many numbers of the sheet there are with a change and how many are right, those that are wrong, and the words that are not in the list. `own`
-    are the numbered events with the change."""
+    """How many numbers of the sheet there are with a change and how many are right, those that are wrong, and the words that are not in the list.
+    `own` are the numbered events with the change."""
     wrong, had, many = [], [0, 0], 0
     for (line, one), other in zip(own, repair.right()):
         if line is None:
@@ -261,8 +262,8 @@ def many_changes(events, listed, rules):
 
 
 def faulty_keys(game, events, listed, rules, nicks, number):
-    """The keys of an illegal record after the verdict, and the events of the sheet that is to be kept; None if the second judge does not know of each change
-    whether a deal fits."""
+    """The keys of an illegal record after the verdict, and the events of the sheet that is to be kept; None if the second judge does not know of each
+    change whether a deal fits."""
     found, alone, sheets = repairs(events, listed, rules), with_numbers(events, listed, rules), of_text(game, listed, rules)
     (two, pairs_known), (several, chain_known) = pairs(events, listed, rules), chain_wanted(events, listed, rules, game)
     known = pairs_known and chain_known and all(it.is_known for it in [*found, *sheets, *([alone] if alone else [])])
@@ -309,8 +310,8 @@ def line_object(found):
 
 
 def repaired_objects(words, lexicon, game, text=None, number=10, most_events=MOST_EVENTS):
-    """What may be answered on a record: its verdict and, if it is illegal, what repairs it. Of an illegal record with more events only the verdict is known
-    here."""
+    """What may be answered on a record: its verdict and, if it is illegal, what repairs it. Of an illegal record with more events only the verdict is
+    known here."""
 
     def answers(listed, players, events, rules):
         if not events:

@@ -243,9 +243,9 @@ def choice(found, two, alone, events, sheets=()):
 
 
 def choice_without(found, two, alone, events):
-    """Which sheet is to be kept if no slip of the whole sheet repairs the record: 'repair', that of the first repair; 'numbers', that with right numbers;
-    'open' where that is not known; or none. A repair is ahead of what costs a wrong number more, and of those that say less; and so are the numbers alone
-    of what costs more."""
+    """Which sheet is to be kept if no slip of the whole sheet repairs the record: 'repair', that of the first repair; 'numbers', that with right
+    numbers; 'open' where that is not known; or none. A repair is ahead of what costs a wrong number more, and of those that say less; and so are the
+    numbers alone of what costs more."""
     costs = [it.cost for it in [*found[:1], *two[:1]]]
     if alone and all(alone.cost + WRONG_NUMBER <= cost for cost in costs):
         return "numbers" if alone.dealt else "open"

@@ -59,8 +59,8 @@ class Taken:
 @dataclass
 class Repair:
     """A change, the record with it and with right numbers, how many numbers of the sheet are wrong then, how many words stand unlisted, and
-    whether a deal is found; if not, no bound is exceeded. `is_open` says that a search has to leave it open, and not only this judge: there is no deal, and
-    no cut. `times` is how many changes make the same record."""
+    whether a deal is found; if not, no bound is exceeded. `is_open` says that a search has to leave it open, and not only this judge: there is no
+    deal, and no cut. `times` is how many changes make the same record."""
 
     change: Change
     taken: list
@@ -267,8 +267,8 @@ def remembered(find):
 @remembered
 def repairs(events, listed, rules=ENGLISH):
     """The repairs of a record, in the order of the rank. If only its numbers are wrong, a change has to leave fewer wrong numbers and unlisted
-    words; if nothing is wrong, there is none. If none by the list of changes costs so little as a wrong number, plays are looked for too, but not if a
-    single number or word is wrong."""
+    words; if nothing is wrong, there is none. If none by the list of changes costs so little as a wrong number, plays are looked for too, but not if
+    a single number or word is wrong."""
     front = Front(rules, events, listed)
     most = most_left(front)
     found = repairs_below(front, most)
@@ -295,8 +295,8 @@ def twisted(word, place):
 
 
 def avoids_word(repair, nothing, events):
-    """Whether more than three words are not in the list with only the numbers corrected, and all that a repair does is to avoid one by letters that trade
-    places."""
+    """Whether more than three words are not in the list with only the numbers corrected, and all that a repair does is to avoid one by letters that
+    trade places."""
     return nothing.unlisted > WORDS_OF_SLIPS and repair.wrong >= nothing.wrong and trade_places(repair.change, events)
 
 
@@ -348,8 +348,8 @@ def other_tile(wrong, right):
 
 
 def shape(change, events):
-    """What the repairs of one line have in common: all but a letter of a play, a tile that should be there, and how many tiles are exchanged. A play that
-    is missing and one that is another one altogether are like no other."""
+    """What the repairs of one line have in common: all but a letter of a play, a tile that should be there, and how many tiles are exchanged. A play
+    that is missing and one that is another one altogether are like no other."""
     if not change.replaced or len(change.there) != 1:
         return [(it.player, it.kind, it.score, it.at, it.direction, it.word) for it in change.there]
     wrong, right = events[change.place], change.there[0]

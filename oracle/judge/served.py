@@ -143,8 +143,8 @@ def plain(told):
 
 
 def objects_for(words, lexicon, do, said, text):
-    """The objects that may be answered; of `tidy`, `page` and `annotate` only those that say why there is no text, and of `compare` none if the second judge does
-    not know it."""
+    """The objects that may be answered; of `tidy`, `page` and `annotate` only those that say why there is no text, and of `compare` none if the
+    second judge does not know it."""
     game, line = said.get("game", "").encode(), said.get("line")
     if do == "judge":
         told = judged_objects(words, lexicon, game, text, said.get("settle", False))
@@ -180,8 +180,8 @@ def status_of(told):
 
 @dataclass
 class Wanted:
-    """An answer without `error`, in which a text may be None: then there is some text. If it is not whole, only its keys are known, of its object too. `kept` are
-    the events of a record that is its text, if they are known."""
+    """An answer without `error`, in which a text may be None: then there is some text. If it is not whole, only its keys are known, of its object
+    too. `kept` are the events of a record that is its text, if they are known."""
 
     answer: dict
     is_whole: bool = True
@@ -214,7 +214,8 @@ def compared(id, said, told):
 
 
 def answers_to(words, lexicon, line, text=None, printed=""):
-    """The answers that a line may get, and whether it is a request. What was `printed` on it says which tiles of a sheet with notes cannot be together."""
+    """The answers that a line may get, and whether it is a request. What was `printed` on it says which tiles of a sheet with notes cannot be
+    together."""
     try:
         id, do, said = request_of(parsed(line))
         check_members(id, do, said)

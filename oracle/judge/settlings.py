@@ -3,8 +3,9 @@
 The places of a cut are not looked at. What its kinds are to show is found anew: the kinds count as one, all others as another,
 and how many tiles of the one can be on each rack is followed from place to place. Where there is no way left, there is no deal.
 
-Of a record that names few kinds it is also said whether it has a deal at all: the kinds that it does not name count as one, and all racks that there can be
-are followed from place to place. Where it has no deal although no kinds of it show that as a cut, a search for a deal or a cut has to leave it open.
+Of a record that names few kinds it is also said whether it has a deal at all: the kinds that it does not name count as one, and all racks that there
+can be are followed from place to place. Where it has no deal although no kinds of it show that as a cut, a search for a deal or a cut has to leave it
+open.
 """
 from collections import Counter
 from itertools import combinations
@@ -174,8 +175,8 @@ def has_deal(places, tiles, kinds):
 
 
 def decided(places, tiles):
-    """What there is to find of a record: `deal`, `cut` or `open`, if it has no deal and no kinds that it names show that; None if it names so many that this is
-    not tried."""
+    """What there is to find of a record: `deal`, `cut` or `open`, if it has no deal and no kinds that it names show that; None if it names so many
+    that this is not tried."""
     kinds = kinds_named(places)
     if len(kinds) > MOST_KINDS or prod(min(tiles[kind], 7) + 1 for kind in kinds) > MOST_RACKS:
         return None

@@ -1,5 +1,5 @@
-"""Slips that run through a whole sheet, by the second judge: a line that is not read is an event, or the same slip is on each line from one on; and what is
-wrong with the line for which a text is not a record."""
+"""Slips that run through a whole sheet, by the second judge: a line that is not read is an event, or the same slip is on each line from one on; and
+what is wrong with the line for which a text is not a record."""
 import re
 from collections import Counter
 from dataclasses import dataclass, replace
@@ -94,8 +94,8 @@ def has_blank(event):
 
 
 def kinds():
-    """The slips that may run through a sheet: what is said of them, the events on which they may begin, on how many of these at least, which events without
-    them are other ones, and an event without them."""
+    """The slips that may run through a sheet: what is said of them, the events on which they may begin, on how many of these at least, which events
+    without them are other ones, and an event without them."""
     yield "all places{} have row and column interchanged", is_play, AT_LEAST, is_play, turned
     for by, off in OFF.items():
         yield "all places{} " + off, is_play, AT_LEAST, is_play, moved(by)
@@ -105,7 +105,8 @@ def kinds():
 
 
 def running(own, places):
-    """The slips that run through a sheet from one of its first events on: what is said of each, its place, and the events from there on without it."""
+    """The slips that run through a sheet from one of its first events on: what is said of each, its place, and the events from there on without
+    it."""
     for place in range(min(places, MOST_PLACES, len(own))):
         for said, begins, least, changed, without in kinds():
             there = [event for _, event in own[place:]]
@@ -157,8 +158,8 @@ def through_sheet(own, events, listed, rules):
 
 @remembered
 def of_text(game, listed, rules=ENGLISH):
-    """The slips of the whole sheet that repair the record of a text, those that cost least first. Few numbers and words stay wrong, and fewer than if only
-    the numbers are corrected."""
+    """The slips of the whole sheet that repair the record of a text, those that cost least first. Few numbers and words stay wrong, and fewer than if
+    only the numbers are corrected."""
     own = numbered(game)
     events = [event for _, event in own]
     front = Front(rules, events, listed)

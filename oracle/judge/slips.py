@@ -167,8 +167,9 @@ def order_of(scene):
 
 @dataclass
 class Notes:
-    """The plays that stand with words that are not in the list: line, player, words; the lines of the turns, and of those without a rack; the racks that are
-    shown in part: line, player, how many tiles are shown, how many the player has; and the last rack that is missing: what happened, to whom."""
+    """The plays that stand with words that are not in the list: line, player, words; the lines of the turns, and of those without a rack; the racks
+    that are shown in part: line, player, how many tiles are shown, how many the player has; and the last rack that is missing: what happened, to
+    whom."""
 
     plays: list
     turns: list
@@ -192,8 +193,8 @@ def due(game):
 
 
 def notes_of(events, lines, listed, rules):
-    """What is noted of a record that the rules allow: the plays that stand with words that are not in the list, the turns without a rack and those with a
-    part of it, and the last rack that is missing."""
+    """What is noted of a record that the rules allow: the plays that stand with words that are not in the list, the turns without a rack and those
+    with a part of it, and the last rack that is missing."""
     game, plays, turns, hidden, parts = Game(rules), [], [], [], []
     for k, event in enumerate(events):
         if is_judged(event, game.out):

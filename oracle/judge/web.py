@@ -8,7 +8,8 @@ VOID = {"meta"}
 TAGS = {
     "html": {"lang"}, "head": set(), "meta": {"charset", "name", "content"}, "title": set(), "style": set(), "body": {"class"},
     "header": set(), "main": set(), "section": {"class", "id"}, "footer": set(), "h1": set(), "h2": set(), "p": {"class"}, "b": {"class"},
-    "i": set(), "q": set(), "bdi": set(), "small": set(), "code": set(), "ul": {"class"}, "li": {"class"}, "table": {"class"}, "thead": set(), "tbody": set(),
+    "i": set(), "q": set(), "bdi": set(), "small": set(), "code": set(), "ul": {"class"}, "li": {"class"},
+    "table": {"class"}, "thead": set(), "tbody": set(),
     "tr": {"class", "id"}, "th": {"class"}, "td": {"class", "colspan"}, "span": set(), "a": {"href"},
 }  # fmt: skip
 CELLS = {"td", "th"}

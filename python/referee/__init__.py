@@ -195,8 +195,8 @@ class Referee:
         return self.ask("judge", game=text_of(game), settle=settle, best=best)
 
     def explain(self, game: Game, line: Optional[int] = None, *, likely: bool = True, draft: bool = False) -> Answer:
-        """Explains the verdict on a game, or one of its lines. Without `likely` no likely repair of an illegal record is looked for. With `draft` the text is that
-        of a draft."""
+        """Explains the verdict on a game, or one of its lines. Without `likely` no likely repair of an illegal record is looked for. With `draft` the
+        text is that of a draft."""
         return self.ask("explain", game=text_of(game), line=line, likely=likely, draft=draft)
 
     def audit(self, game: Game, *, corrected: bool = False) -> Answer:
@@ -228,13 +228,14 @@ class Referee:
         return self.ask("page", game=text_of(game), likely=likely).text or ""
 
     def repair(self, game: Game, *, number: Optional[int] = None, repaired: bool = False, draft: bool = False) -> Answer:
-        """What repairs an illegal record, or a text that is not one, in ten lines, or in `number` lines. If `repaired` is true and one repair is to be chosen,
-        the repaired sheet is the `text` of the answer. A text that is not a record is a `BadInput`, whose `answer` has the repairs and the text. If `draft` is
-        true, the text is that of a draft, and only the numbers that are written count."""
+        """What repairs an illegal record, or a text that is not one, in ten lines, or in `number` lines. If `repaired` is true and one repair is to
+        be chosen, the repaired sheet is the `text` of the answer. A text that is not a record is a `BadInput`, whose `answer` has the repairs and the
+        text. If `draft` is true, the text is that of a draft, and only the numbers that are written count."""
         return self.ask("repair", game=text_of(game), number=number, repaired=repaired, draft=draft)
 
     def compare(self, first: Game, second: Game, *, merged: bool = False, draft: bool = False) -> Answer:
-        """Compares two sheets of one game, or two drafts if `draft` is true. If `merged` is true and there is a merged record, it is the `text` of the answer."""
+        """Compares two sheets of one game, or two drafts if `draft` is true. If `merged` is true and there is a merged record, it is the `text` of
+        the answer."""
         return self.ask("compare", first=text_of(first), second=text_of(second), merged=merged, draft=draft)
 
     def annotate(self, game: Game, *, number: Optional[int] = None) -> str:
@@ -242,7 +243,8 @@ class Referee:
         return self.ask("annotate", game=text_of(game), number=number).text or ""
 
     def fill(self, draft: Game, *, filled: bool = False) -> Answer:
-        """Puts into a draft the scores and totals that it lacks. If `filled` is true and the record is to be written, it is the `text` of the answer."""
+        """Puts into a draft the scores and totals that it lacks. If `filled` is true and the record is to be written, it is the `text` of the
+        answer."""
         return self.ask("fill", draft=text_of(draft), filled=filled)
 
     def next(self, draft: Game) -> Answer:
@@ -250,7 +252,8 @@ class Referee:
         return self.ask("next", draft=text_of(draft))
 
     def ask(self, do: str, *, timeout: Optional[float] = None, **members: Any) -> Answer:
-        """The answer to a request with these members; one that is None is left out. With `timeout` the program has that many seconds for this request."""
+        """The answer to a request with these members; one that is None is left out. With `timeout` the program has that many seconds for this
+        request."""
         with self._lock:
             number = next(self._numbers)
             asked = {"id": number, "do": do} | {key: value for key, value in members.items() if value is not None}

@@ -161,7 +161,8 @@ def _end(answer: dict[str, Any]) -> list[str]:
     for total in answer["totals"]:
         if not total["first"] == total["second"] == total["right"]:
             said.append(
-                f"total of {names[total['player'] - 1]}: {_total(total['first'])} on the first sheet, {_total(total['second'])} on the second; the rules give {_total(total['right'])}"
+                f"total of {names[total['player'] - 1]}: {_total(total['first'])} on the first sheet, "
+                f"{_total(total['second'])} on the second; the rules give {_total(total['right'])}"
             )
     said.append(f"{names[ahead['player'] - 1]} {verb} by {ahead['by']}, by the right numbers" if ahead["player"] else "both have the same total")
     return said

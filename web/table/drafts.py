@@ -1,7 +1,7 @@
 """The text of a draft: a record in whose event lines the numbers at the end may be missing.
 
-Nothing here knows the rules of the game. A line is told apart by its fields alone: a field with a digit that does not begin with `-` is a position, and
-one that begins with `-` or `(` is a code; anything else is a rack, and what follows it is read the same way.
+Nothing here knows the rules of the game. A line is told apart by its fields alone: a field with a digit that does not begin with `-` is a position,
+and one that begins with `-` or `(` is a code; anything else is a rack, and what follows it is read the same way.
 """
 from __future__ import annotations
 

@@ -29,8 +29,8 @@ class TooLong(Exception):
 
 @dataclass(frozen=True)
 class Filled:
-    """A record that was made of a draft (`judged`), and how many numbers were put in. Its `text` is the draft with those of them that are right: from a
-    line on that the rules refuse, none can be."""
+    """A record that was made of a draft (`judged`), and how many numbers were put in. Its `text` is the draft with those of them that are right: from
+    a line on that the rules refuse, none can be."""
 
     text: str
     judged: str
@@ -343,7 +343,8 @@ def _with_ends(line: str, put_in: dict[str, Any]) -> str:
 
 
 def _with_numbers(draft: str, scores: dict[int, int]) -> str:
-    """A draft with scores at the ends of these lines, and with the totals that are missing, each of which is the player's last total and the score."""
+    """A draft with scores at the ends of these lines, and with the totals that are missing, each of which is the player's last total and the
+    score."""
     totals: dict[str, int] = {}
     lines = []
     for number, line in enumerate(drafts.lines_of(draft), 1):

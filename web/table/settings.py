@@ -46,7 +46,8 @@ class Settings:
 
 
 def settings_of(environment: Mapping[str, str] = os.environ) -> Settings:
-    """The settings that the variables of the environment say, which start.sh sets: of the lists and of the rules a line has each, with tabs between."""
+    """The settings that the variables of the environment say, which start.sh sets: of the lists and of the rules a line has each, with tabs
+    between."""
     other_names = environment.get("TABLE_NAMES", "").split()
     rules = tuple(Rules(*line.split("\t")) for line in environment.get("TABLE_RULES", "").splitlines())
     return Settings(

@@ -10,7 +10,8 @@ PATIENCE = 20.0
 
 
 class Worker(ThreadWorker):  # type: ignore[misc]
-    """A worker with threads that does not wait for ever. A browser may open a connection and say nothing, which would hold a thread until it leaves."""
+    """A worker with threads that does not wait for ever. A browser may open a connection and say nothing, which would hold a thread until it
+    leaves."""
 
     def handle(self, conn: Any) -> Any:
         """Answers a connection, or closes it if nothing comes."""

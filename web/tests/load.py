@@ -1,8 +1,8 @@
 """Fifty people at once: load.py [SECONDS [PEOPLE [WORDS]]]
 
-Each of them enters the example game line by line, over and over, and now and then checks a sheet with a slip, asks for a challenge, or looks at the page of
-the game, with pauses of up to two seconds between. Every answer has to be right. At the end come the figures: how many answers there were, and how
-long they took.
+Each of them enters the example game line by line, over and over, and now and then checks a sheet with a slip, asks for a challenge, or looks at the
+page of the game, with pauses of up to two seconds between. Every answer has to be right. At the end come the figures: how many answers there were,
+and how long they took.
 """
 from __future__ import annotations
 
@@ -87,7 +87,8 @@ def faults_under_load(seconds: float, many: int, page: Page) -> list[str]:
         if found:
             middle, late = found[len(found) // 2], found[min(len(found) - 1, len(found) * 99 // 100)]
             print(
-                f"  {what}: {len(found)}, half of them within {1000 * middle:.0f} ms, 99 of 100 within {1000 * late:.0f} ms, all within {1000 * found[-1]:.0f} ms"
+                f"  {what}: {len(found)}, half of them within {1000 * middle:.0f} ms, "
+                f"99 of 100 within {1000 * late:.0f} ms, all within {1000 * found[-1]:.0f} ms"
             )
     return [fault for person in people for fault in person.faults]
 

@@ -1,4 +1,5 @@
-"""What a browser keeps: Back and Forward, a browser that is closed and opened again, an evening of eight boards, lines that are corrected in their place."""
+"""What a browser keeps: Back and Forward, a browser that is closed and opened again, an evening of eight boards, lines that are corrected in their
+place."""
 from __future__ import annotations
 
 import io
@@ -237,7 +238,8 @@ class Evening(unittest.TestCase):
         """What is kept is never markup, whoever wrote it there."""
         self.begin("<img/src=x>", "<b>Bob</b>")
         self.browser.driver.execute_script(
-            """localStorage.setItem("game x", JSON.stringify({ names: ["<img src=x onerror=alert(1)>"], points: ["<b>1</b>"], last: "<script>alert(1)</script>", text: "</textarea><img src=x>", at: 0 }));
+            'localStorage.setItem("game x", JSON.stringify({ names: ["<img src=x onerror=alert(1)>"], points: ["<b>1</b>"], '
+            """last: "<script>alert(1)</script>", text: "</textarea><img src=x>", at: 0 }));
             localStorage.setItem("game y", "no object"); localStorage.setItem("game z", "null");"""
         )
         self.browser.open("/")

@@ -223,7 +223,10 @@ class Checking(Asking):
         self.assertIn("1 number is wrong. With the right one the game stands.", words_in(text))
         self.assertRegex(words_in(text), r"6 Ann 8E GAZE score 29 28")
         self.assertEqual(self.kept(text, "corrected"), GAME)
-        body = b'--x\r\nContent-Disposition: form-data; name="token"\r\n\r\n%s\r\n--x\r\nContent-Disposition: form-data; name="game-file"; filename="g.gcg"\r\n\r\n%s\r\n--x--\r\n'
+        body = (
+            b'--x\r\nContent-Disposition: form-data; name="token"\r\n\r\n%s\r\n'
+            b'--x\r\nContent-Disposition: form-data; name="game-file"; filename="g.gcg"\r\n\r\n%s\r\n--x--\r\n'
+        )
         sent = body % (self.client.token.encode(), WRONG_SCORE.replace("\n", "\r\n").encode())
         status, _ = self.client.ask("POST", "/sheet", sent, Content_Type="multipart/form-data; boundary=x")
         self.assertEqual(status, 303)
