@@ -7,20 +7,17 @@ time in the mean and at most.
 """
 import argparse
 import random
-import sys
 import tempfile
 from pathlib import Path
 
-sys.path.extend(str(Path(__file__).resolve().parents[1] / "oracle" / folder) for folder in ("judge", "generators", "comparisons"))
+from running import run
+from settle import BOTH, TWO_SETS
 
 from compare_changes import line_of
 from dealing import Dealer
 from lexicons import build
 from repair_figures import SLIPS, STYLES
 from rules_texts import text_of
-
-from running import run
-from settle import BOTH, TWO_SETS
 
 EVENTS = 1000
 

@@ -1,6 +1,7 @@
 """Runs programs, and says what they took: for the scripts of this folder.
 
-The peak memory of a run counts that of the process that starts it. So inputs are made by processes of their own (`apart`).
+The peak memory of a run counts that of the process that starts it. So inputs are made by processes of their own (`apart`). A script that uses modules
+of the second judge imports this one first, which lets Python find them.
 """
 import os
 import subprocess
@@ -8,6 +9,8 @@ import sys
 import time
 from pathlib import Path
 from typing import NamedTuple
+
+sys.path.extend(str(Path(__file__).resolve().parents[1] / "oracle" / folder) for folder in ("judge", "generators", "comparisons"))
 
 
 class Ran(NamedTuple):

@@ -12,12 +12,10 @@ import tempfile
 from hashlib import sha256
 from pathlib import Path
 
-sys.path.extend(str(Path(__file__).resolve().parents[1] / "oracle" / folder) for folder in ("judge", "generators"))
+from running import apart, run
 
 from dealing import Dealer, line
 from rules import ENGLISH
-
-from running import apart, run
 
 HERE = Path(__file__).parent
 TURNS = 40

@@ -11,14 +11,12 @@ from collections import Counter
 from dataclasses import replace
 from pathlib import Path
 
-sys.path.extend(str(Path(__file__).resolve().parents[1] / "oracle" / folder) for folder in ("judge", "generators"))
+from running import run
 
 from dealing import Dealer, line, spoiled
 from lexicons import build
 from rules import ENGLISH
 from rules_texts import text_of
-
-from running import run
 
 BOTH = ("known", "unknown")
 TWO_SETS = replace(ENGLISH, tiles=Counter({tile: 2 * count for tile, count in ENGLISH.tiles.items()}), exchange_min=1, zero_limit=99)

@@ -12,14 +12,10 @@ import tempfile
 from concurrent.futures import ThreadPoolExecutor
 from pathlib import Path
 
-ROOT = Path(__file__).resolve().parents[2]
-sys.path.append(str(ROOT / "python"))
-
-from referee import BadInput, BadRequest, Broken, Referee, TimedOut, text_of
-
 from comparing import Differences
 from dealing import line
 from mistakes import some_inputs
+from referee import BadInput, BadRequest, Broken, Referee, TimedOut, text_of
 
 WORD = ">A: DORWAAE 8E WORD +16 16\n"
 WRONG = ">A: DORWAAE 8E WORD +16 18\n>B: - +0 0\n"

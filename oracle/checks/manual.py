@@ -16,11 +16,10 @@ import threading
 import time
 from pathlib import Path
 
+import completions
+
 ROOT = Path(__file__).resolve().parents[2]
 EXTRA = ROOT / "extra"
-sys.path.append(str(EXTRA))
-
-import completions
 
 # What zsh runs before it is asked: a tab writes each word that is offered to OFFERED, and then a line `end`, and so does the prompt once it takes
 # keys.

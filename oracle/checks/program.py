@@ -1594,7 +1594,7 @@ def served(run):
 
 
 ANY = object()
-NO_REPAIRS = {
+NO_REPAIRS: dict[str, object] = {
     "numbers_alone": None,
     "repairs": [],
     "pairs": [],
@@ -1605,7 +1605,7 @@ NO_REPAIRS = {
     "numbers_alone_settled": None,
     "sheet_slips": [],
 }
-NO_GAME_HEAD = {"verdict": "no game", "line": None, "fault": None, "unread_lines": []}
+NO_GAME_HEAD: dict[str, object] = {"verdict": "no game", "line": None, "fault": None, "unread_lines": []}
 THIRD = {"verdict": "bad record", "line": 3, "fault": {"name": "ThirdPlayer"}}
 
 
@@ -1928,7 +1928,7 @@ def next_lines(run, bare, files):
         (
             f"#player2 B Bo Bell\n{bare}\n",
             0,
-            f"next: B\n" + first.replace("player 2", "B"),
+            "next: B\n" + first.replace("player 2", "B"),
             state | {"players": [sides[0], sides[1] | {"nick": "B", "name": "Bo Bell"}]},
         ),
         ("", 0, f"next: either player\n{start}", state | {"turn": None, "players": [it | {"nick": None, "total": 0} for it in sides], "bag": 86}),

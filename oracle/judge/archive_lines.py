@@ -50,8 +50,8 @@ def ways(name, game, listed, rules=ENGLISH, dealt=False):
     """The lines of which one has to be said of the bytes of a game. One that was dealt for real is legal where each event is allowed."""
     try:
         players, said = read(game)
-    except Fault as fault:
-        return [fields(name, "bad record", line=fault.line or None, fault=fault.why)]
+    except Fault as bad:
+        return [fields(name, "bad record", line=bad.line or None, fault=bad.why)]
     events = [event_of(it) for it in said]
     told = known(players, events, states_latin(game)) | {"unread_lines": len(unread_lines(game))}
     if not events:

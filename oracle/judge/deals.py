@@ -30,8 +30,8 @@ class Place:
     bag: int
     turn: bool
     used: Counter
-    holder: int = None
-    need: Counter = None
+    holder: int | None = None
+    need: Counter | None = None
 
     def throws(self):
         """The tiles of an exchange of known ones."""

@@ -38,7 +38,10 @@ class Written:
 
 def head_of(line, fields):
     """The fields of an event line up to its numbers: a rack or none, and then a position and a word, or a code."""
-    begins = lambda k: fields[k][:1] in (b"-", b"(")
+
+    def begins(k):
+        return fields[k][:1] in (b"-", b"(")
+
     rack = 0 if not fields or begins(0) or re.search(rb"[0-9]", fields[0]) else 1
     if len(fields) == rack:
         raise DraftFault(line, "Fields", "no event")

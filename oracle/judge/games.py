@@ -18,8 +18,8 @@ class Event:
     score: int
     total: int
     text: str
-    at: tuple = None
-    direction: tuple = None
+    at: tuple | None = None
+    direction: tuple | None = None
     word: str = ""
     tiles: str = ""
     size: int = 0
@@ -35,14 +35,14 @@ class Game:
     totals: list = field(default_factory=lambda: [0, 0])
     racks: list = field(default_factory=lambda: [RACK, RACK])
     bag: int = field(init=False)
-    mover: int = None
+    mover: int | None = None
     idle_turns: int = 0
-    out: int = None
+    out: int | None = None
     idle_pass: bool = False
     complete: bool = False
     timed: list = field(default_factory=lambda: [False, False])
     ended: list = field(default_factory=lambda: [False, False])
-    latest: dict = None  # of a play: player, new tiles, words, score, stands
+    latest: dict | None = None  # of a play: player, new tiles, words, score, stands
 
     def __post_init__(self):
         self.bag = self.rules.bag()

@@ -261,8 +261,8 @@ def boarded_object(game, before=None, text=None):
     try:
         rules = ENGLISH if text is None else rules_texts.read(text)
         players, said = read(game)
-    except (rules_texts.Fault, Fault) as fault:
-        return refused(fault.text())
+    except (rules_texts.Fault, Fault) as bad:
+        return refused(bad.text())
     events, lines = [event_of(it) for it in said], lines_of(game)
     asked = place_before(lines, before)
     if asked is None:

@@ -49,7 +49,7 @@ class Repaired:
 
     told: dict
     is_whole: bool = True
-    kept: list = None
+    kept: list | None = None
 
 
 # ---- lines
@@ -285,7 +285,7 @@ def faulty_keys(game, events, listed, rules, nicks, number):
     return keys, chosen[0].right() if chosen else None
 
 
-NO_KEYS = {"numbers_alone": None, "repairs": [], "pairs": [], "chain": None, "left": None, "tried": None, "untried": None}
+NO_KEYS: dict[str, object] = {"numbers_alone": None, "repairs": [], "pairs": [], "chain": None, "left": None, "tried": None, "untried": None}
 NO_KEYS |= {"numbers_alone_settled": None, "sheet_slips": []}
 
 

@@ -66,7 +66,7 @@ class Repair:
     taken: list
     wrong: int
     unlisted: int
-    dealt: bool = None
+    dealt: bool | None = None
     is_open: bool = False
     times: int = 1
 

@@ -37,7 +37,7 @@ POINTS = {
 }
 
 # Premium squares by row and columns, as the tables of the game have them.
-ROWS = {
+ROWS: dict[str, list[tuple[tuple[int, ...], str]]] = {
     "TW": [((1, 15), "AHO"), ((8,), "AO")],
     "DW": [((2, 14), "BN"), ((3, 13), "CM"), ((4, 12), "DL"), ((5, 11), "EK"), ((8,), "H")],
     "TL": [((2, 14), "FJ"), ((6, 10), "BFJN")],

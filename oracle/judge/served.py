@@ -185,7 +185,7 @@ class Wanted:
 
     answer: dict
     is_whole: bool = True
-    kept: list = None
+    kept: list | None = None
 
 
 def annotated_ways(words, lexicon, game, number, text, printed):

@@ -36,7 +36,7 @@ class SheetRepair:
     said: str
     repair: Repair
     own: list
-    line: int = None
+    line: int | None = None
 
     @property
     def cost(self):

@@ -4,7 +4,7 @@ from __future__ import annotations
 import base64
 import binascii
 import zlib
-from typing import Callable, Union
+from typing import Any, Callable, Union
 
 from flask import abort, redirect, url_for
 from werkzeug.wrappers import Response
@@ -34,6 +34,6 @@ def unpacked(state: str) -> str:
 
 def led_to(place: str, show: Callable[[dict[str, str]], Page], **parts: str) -> Page:
     """The way to the page that a GET gives, which these parts of its address say. If the address would be too long, the page is the answer itself."""
-    given = {name: part for name, part in parts.items() if part}
+    given: dict[str, Any] = {name: part for name, part in parts.items() if part}
     address = url_for(place, **given)
     return redirect(address, 303) if len(address) < LONGEST else show(given)

@@ -150,8 +150,10 @@ class Judge:
         """The record that a draft makes, for its reasons: up to the line that the rules refuse, which has its right numbers, if its play is known."""
         filled, verdict = self.filled(draft), self.line(draft)
         line, play = verdict.get("line"), verdict.get("play")
-        fields = drafts.fields_of(drafts.lines_of(draft)[line - 1]) if line and play else None
-        if verdict["verdict"] != "illegal" or fields is None or fields.missing != 2:
+        if verdict["verdict"] != "illegal" or not line or not play:
+            return filled.judged
+        fields = drafts.fields_of(drafts.lines_of(draft)[line - 1])
+        if fields is None or fields.missing != 2:
             return filled.judged
         return _with_numbers("\n".join(drafts.lines_of(filled.text)[:line]) + "\n", {line: play["score"]})
 

@@ -166,8 +166,13 @@ class WithScripts(Browsing):
 
     def choose_player(self, nick: str) -> None:
         """From the field of the play back to the players, and with the arrows to the one who is meant."""
-        keys = lambda *typed: ActionChains(self.browser.driver).send_keys(*typed).perform()
-        back = lambda: ActionChains(self.browser.driver).key_down(Keys.SHIFT).send_keys(Keys.TAB).key_up(Keys.SHIFT).perform()
+
+        def keys(typed: str) -> None:
+            ActionChains(self.browser.driver).send_keys(typed).perform()
+
+        def back() -> None:
+            ActionChains(self.browser.driver).key_down(Keys.SHIFT).send_keys(Keys.TAB).key_up(Keys.SHIFT).perform()
+
         for _ in range(6):
             back()
             if self.browser.focused() == "player":

@@ -118,6 +118,12 @@ class Going(Keeping):
         self.browser.press("Leave it as it is")
         self.assertEqual(self.browser.all("#mend"), [])
 
+    def box(self, selector: str) -> list[float]:
+        """Where an element is on the screen: its left, upper, right and lower edge."""
+        where = "const it = document.querySelector(arguments[0]).getBoundingClientRect(); return [it.left, it.top, it.right, it.bottom]"
+        found: list[float] = self.browser.driver.execute_script(where, selector)
+        return found
+
     def test_on_one_screen(self) -> None:
         """At 360 by 740 pixels the board, the field and its button are on one screen, with squares as large as fit."""
         self.browser.size(360, 740, False)
@@ -125,10 +131,7 @@ class Going(Keeping):
             for come in (self.begin, lambda: self.opened(HALF)):
                 come()
                 self.browser.driver.execute_script("window.scrollTo(0, 0)")
-                box = lambda selector: self.browser.driver.execute_script(
-                    "const it = document.querySelector(arguments[0]).getBoundingClientRect(); return [it.left, it.top, it.right, it.bottom]", selector
-                )
-                board, field, button = box(".board"), box("#move"), box(".entry button.main")
+                board, field, button = self.box(".board"), self.box("#move"), self.box(".entry button.main")
                 self.assertGreater(board[2] - board[0], 335)
                 self.assertLess(board[3], field[1])
                 self.assertLess(max(field[3], button[3]), 740)
@@ -136,9 +139,9 @@ class Going(Keeping):
                 self.browser.find("button[value=square-8C], button[value=square-1B]").click()
                 self.assertEqual(self.browser.focused(), "move")
             self.browser.size(360, 400, False)
-            WebDriverWait(self.browser.driver, 20, 0.1).until(lambda _: box("#move")[3] < 400)
-            self.assertGreater(box("#move")[1], 0)
-            self.assertLess(box(".entry button.main")[3], 400)
+            WebDriverWait(self.browser.driver, 20, 0.1).until(lambda _: self.box("#move")[3] < 400)
+            self.assertGreater(self.box("#move")[1], 0)
+            self.assertLess(self.box(".entry button.main")[3], 400)
         finally:
             self.browser.size(1200, 900, False)
 
