@@ -27,6 +27,7 @@ copy_wanted "$room/copy"
 
 # What each crate took when the table was made, in seconds of processor time, and about a minute for one that is not there.
 declare -A takes=()
+# shellcheck disable=SC2016 # the backquotes are those of the table
 while read -r name seconds; do
     takes[$name]=$seconds
 done < <(sed -nE 's/^\| `([a-z_]+)` \| ([0-9]+) \|.*/\1 \2/p' bench/gate.md)

@@ -35,6 +35,7 @@ run_tests() {
     [[ $counts == *" 0" ]] || tail -n 40 "$said"
 }
 export -f run_tests
+# shellcheck disable=SC2016 # the inner bash expands it
 printf '%s\n' "${crates[@]}" | xargs -P "$processors" -I @ bash -c 'run_tests @ "$0"' "$room"
 echo "nothing was proved"
 cat "$room"/*.counts | awk -v crates=${#crates[@]} '{ passed += $1; failed += $2 } END { failed += crates - NR; print passed " passed, " failed " failed"; exit failed > 0 }'

@@ -5,6 +5,8 @@
 # installed in a new Debian in a folder, made by debootstrap, which has no toolchain; used there, upgraded, removed and purged. That needs the network and an
 # administrator's shell. If debootstrap or lintian is missing, it is installed first where that may be done; what cannot be tried is left out,
 # and that is said. The last line is 'N passed, M failed', and the status is 0 if nothing failed.
+#
+# shellcheck disable=SC2016,SC2317 # shells inside the new Debian expand what is quoted, and `try` and the trap run the functions
 set -u
 cd "$(dirname "$0")/.." || exit 2
 program=$(realpath -m "${1:-crates/referee/out/referee}")
@@ -100,9 +102,10 @@ removes() {
 }
 purges() {
     within dpkg -P referee && ! test -e "$inside/etc/default/referee-table" &&
-        { find "$inside/usr" "$inside/etc" "$inside/var" -iname '*referee*' | grep . && return 1 || true; }
+        ! find "$inside/usr" "$inside/etc" "$inside/var" -iname '*referee*' | grep .
 }
 makes_debian() {
+    # shellcheck source=/dev/null
     debootstrap --variant=minbase --include=python3,python3-flask,gunicorn "$(. /etc/os-release && echo "$VERSION_CODENAME")" "$inside" &&
         mount -t proc proc "$inside/proc" && mount --bind /dev "$inside/dev"
 }

@@ -29,7 +29,7 @@ stop() {
 }
 # A file that has to be there, by its whole name.
 file() {
-    [ -f "$1" ] && [ -r "$1" ] || stop "there is no file $1 that can be read"
+    if [ ! -f "$1" ] || [ ! -r "$1" ]; then stop "there is no file $1 that can be read"; fi
     realpath "$1"
 }
 tab=$'\t'
