@@ -1,13 +1,14 @@
 """How each page looks: contrast, labels, and that nothing is wider than the window, at 320, 360 and 1,200 pixels, in light and in dark.
 
-With TABLE_PICTURES=FOLDER a picture of each is written there, to be looked at.
+With TABLE_PICTURES=FOLDER a picture of each is written there, to be looked at. What a screen reader is told, the accessibility tree, is looked at
+too.
 """
 from __future__ import annotations
 
 import time
 import unittest
 from pathlib import Path
-from typing import Callable
+from typing import Any, Callable, Iterator
 
 from browsing import SIZES, Browser
 from support import GAME, PICTURES, WRONG_PLACE, shared_page
@@ -15,6 +16,36 @@ from support import GAME, PICTURES, WRONG_PLACE, shared_page
 LOOKS = (Path(__file__).parent / "looks.js").read_text()
 PHONY = GAME[: GAME.index(">Bob: CELNOOT --")]
 HALF = "\n".join(GAME.split("\n")[:29]) + "\n"
+
+
+NAMED = {"button", "checkbox", "combobox", "heading", "image", "link", "radio", "searchbox", "spinbutton", "textbox"}
+
+
+def value_of(node: dict[str, Any], key: str) -> str:
+    """A value of a node of the accessibility tree, as a text."""
+    return str(node.get(key, {}).get("value", "")).strip()
+
+
+def faults_of_tree(nodes: list[dict[str, Any]]) -> Iterator[str]:
+    """What a screen reader would miss: a name, the one main part, or a step of the headings."""
+    told = [node for node in nodes if not node.get("ignored")]
+    for node in told:
+        if value_of(node, "role") in NAMED and not value_of(node, "name"):
+            yield f"{value_of(node, 'role')} without a name"
+    mains = sum(value_of(node, "role") == "main" for node in told)
+    if mains != 1:
+        yield f"{mains} main parts"
+    steps = [
+        int(it["value"]["value"])
+        for node in told
+        if value_of(node, "role") == "heading"
+        for it in node.get("properties", ())
+        if it["name"] == "level"
+    ]
+    if steps.count(1) != 1 or any(after > before + 1 for before, after in zip(steps, steps[1:])):
+        yield f"headings of the levels {steps}"
+    if not any(value_of(node, "role") == "RootWebArea" and value_of(node, "name") for node in told):
+        yield "no title"
 
 
 class Looks(unittest.TestCase):
@@ -138,6 +169,15 @@ class Looks(unittest.TestCase):
                         if PICTURES:
                             time.sleep(0.5 if self.browser.all("iframe") else 0)
                             self.browser.picture(Path(PICTURES, f"{name}-{width}-{'dark' if is_dark else 'light'}.png"))
+
+    def test_tree(self) -> None:
+        """A screen reader is told what each field, button and link is, and where the page begins."""
+        self.browser.size(1200, 900, False)
+        for name, come in self.pages().items():
+            with self.subTest(page=name):
+                come()
+                nodes = self.browser.driver.execute_cdp_cmd("Accessibility.getFullAXTree", {})["nodes"]
+                self.assertEqual(list(faults_of_tree(nodes)), [])
 
 
 if __name__ == "__main__":
