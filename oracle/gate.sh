@@ -52,6 +52,7 @@ flip_lexicons 2000
 compare_tops 50
 compare_rules 20
 compare_archive 60
+archive_faults 300
 archive_scripts 30
 compare_audits 30
 compare_drafts 60

@@ -48,6 +48,7 @@ def make_archive(folder, count):
         "games/empty.gcg": b"",
         "games/page.html": b"<html>\n",
         "games/-": games[0],
+        "games/formulas.gcg": b">=A: - +0 0\n>+B: - +0 0\n",
         "games/unread.gcg": games[0] + b"A: (time) -5 100\n",
     }
     wanted = {}
@@ -92,6 +93,12 @@ class Scripts:
         first = self.compare("The first run")
         self.expect(told == "status 3\n", told)
         self.expect(sum(int(it.split()[0]) for it in self.run("The first run", 1).splitlines()) == len(first), "counts")
+        self.run("The line")
+        fields = [it for text in (self.folder / "sheet.tsv").read_text().splitlines() for it in text.split("\t")]
+        self.expect(not [it for it in fields if it[:1] in "=+@-" and it != "-" and it], "formulas")
+        self.expect(
+            [it.removeprefix("'") for it in fields] == [it for text in self.lines.read_text().splitlines() for it in text.split("\t")], "fields"
+        )
         whole = self.lines.read_bytes()
         for cut in (0, 1, len(whole) // 2, len(whole) - 1, len(whole), whole.index(b"back") + 10):
             self.lines.write_bytes(whole[:cut])
