@@ -9,7 +9,7 @@
 # Without PROGRAM the program is first proved and built from nothing by the toolchain's own `rt ci --anew`: it starts no extra/rt and takes no proof that an
 # earlier run kept. It also tries the edits that the gate tries, and extra/edits.sh tries the others. That takes some hours. PROGRAM is a program that was
 # proved already, as the gate leaves it in crates/referee/out/referee; GATE and EDITS are files with what the gate and extra/edits.sh printed then.
-# At the end the package is tried (extra/try_package.sh).
+# The gate also tries the package (extra/try_package.sh).
 set -eu
 case $# in
     1 | 2 | 4) ;;
@@ -52,4 +52,3 @@ tar -C "$room" --sort=name --mtime=@0 --owner=0 --group=0 --numeric-owner --mode
 extra/package.sh "$folder" "$program" "$room/PROOF-RUN.txt" > /dev/null
 (cd "$folder" && sha256sum "$name.tar.gz" "referee_${version}_amd64.deb" "referee_${version}_amd64.debug" > "$room/sums" && mv "$room/sums" SHA256SUMS)
 ls "$folder"/*"$version"* "$folder/SHA256SUMS"
-extra/try_package.sh "$program" >&2

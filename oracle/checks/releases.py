@@ -22,6 +22,7 @@ WANTED = {
     "web/table/templates/game.html",
     "README.md",
     "CHANGELOG.md",
+    "PROOF-RUN.txt",
     "SHA256SUMS",
 }
 
@@ -39,13 +40,17 @@ def faults_of(program, folder):
     again = packed(program, Path(folder, "twice"))
     if archive.read_bytes() != again.read_bytes():
         yield "the same files make two archives"
-    line = f"{hashlib.sha256(archive.read_bytes()).hexdigest()}  {archive.name}\n"
-    if Path(f"{archive}.sha256").read_text() != line:
-        yield "the sum of the archive"
     version = subprocess.run([program, "-V"], capture_output=True, check=True, text=True).stdout.split()[1]
     name = f"referee-{version}"
     if archive.name != f"{name}.tar.gz":
         yield f"the name {archive.name}"
+    package = f"referee_{version}_amd64"
+    beside = [f"{name}.tar.gz", f"{package}.deb", f"{package}.debug"]
+    if sorted(it.name for it in archive.parent.iterdir()) != sorted(["SHA256SUMS", *beside]):
+        yield f"the files {sorted(it.name for it in archive.parent.iterdir())}"
+    lines = [f"{hashlib.sha256((archive.parent / it).read_bytes()).hexdigest()}  {it}\n" for it in beside]
+    if (archive.parent / "SHA256SUMS").read_text() != "".join(lines):
+        yield "the sums of the files"
     with tarfile.open(archive) as tar:
         files = {it.name: tar.extractfile(it).read() for it in tar if it.isfile()}
         modes = {it.name: it.mode for it in tar}
@@ -56,6 +61,14 @@ def faults_of(program, folder):
         yield "SHA256SUMS"
     if files[f"{name}/referee"] != Path(program).read_bytes() or modes[f"{name}/referee"] != 0o755:
         yield "the program"
+    certificate = files[f"{name}/PROOF-RUN.txt"].decode()
+    for fact in (
+        f"version     {version}",
+        hashlib.sha256(Path(program).read_bytes()).hexdigest(),
+        *(it.name for it in (ROOT / "crates").iterdir() if it.is_dir()),
+    ):
+        if fact not in certificate:
+            yield f"PROOF-RUN.txt does not have {fact}"
     if next(line for line in files[f"{name}/CHANGELOG.md"].decode().splitlines() if line.startswith("## ")) != f"## {version}":
         yield f"CHANGELOG.md does not begin with {version}"
     if f'version = "{version}"' not in files[f"{name}/python/pyproject.toml"].decode().splitlines():
