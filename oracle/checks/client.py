@@ -10,14 +10,30 @@ import signal
 import sys
 import tempfile
 from concurrent.futures import ThreadPoolExecutor
+from functools import partial
 from pathlib import Path
 
 from comparing import Differences
 from dealing import line
 from mistakes import some_inputs
-from referee import BadInput, BadRequest, Broken, Referee, TimedOut, text_of
+from referee import BadInput, BadRequest, Broken, Died, Garbled, OutOfTurn, Referee, TimedOut, text_of
 
 WORD = ">A: DORWAAE 8E WORD +16 16\n"
+# A program that is ready, and then does what a program of the name should not.
+STUB = """#!/usr/bin/env python3
+import sys, time
+print('{"ready":true,"words":2,"version":"0"}', flush=True)
+for line in sys.stdin:
+    %s
+"""
+FAULTS = {
+    "sys.exit(3)": Died,
+    "time.sleep(60)": TimedOut,
+    "sys.stdout.write('{\"id\":1,\"sta'); sys.exit(0)": Garbled,
+    "print('[1]', flush=True)": Garbled,
+    "print('no object', flush=True)": Garbled,
+    "print('{\"id\":99,\"status\":0,\"answer\":{}}', flush=True)": OutOfTurn,
+}
 WRONG = ">A: DORWAAE 8E WORD +16 18\n>B: - +0 0\n"
 
 
@@ -121,6 +137,37 @@ class Client(Differences):
         self.raised(OSError, lambda: Referee(*pair, program=self.folder / "none"))
         self.raised(Broken, lambda: Referee(*pair, program="/bin/true"))
 
+    def faults(self):
+        """Programs that answer as they should not: each fault has an error of its own, and the program is started again only if that is wanted."""
+        stub = self.folder / "stub"
+        for does, kind in FAULTS.items():
+            stub.write_text(STUB % does)
+            stub.chmod(0o755)
+            for restart in (False, True):
+                with Referee("words", "lexicon", program=stub, restart=restart) as referee:
+                    ask = partial(referee.ask, "judge", timeout=1 if kind is TimedOut else 60, game=WORD)
+                    told = self.raised(kind, ask, does, restart)
+                    self.expect(type(told) is kind, does, restart, repr(told))
+                    again = self.raised(Broken, ask, does, restart)
+                    self.expect(type(again) is (kind if restart else Died), does, restart, repr(again))
+        pair = (self.folder / "words", self.folder / "lexicon")
+        with Referee(*pair, program=self.program, restart=False) as referee:
+            self.expect(referee.judge(WORD).verdict == "legal" and referee.judge(WORD).verdict == "legal", "without a fault")
+            os.kill(referee._process.pid, signal.SIGKILL)
+            self.raised(Died, lambda: referee.judge(WORD), "killed")
+        self.replaced(pair)
+
+    def replaced(self, pair):
+        """A list that is replaced or removed under a program that has read it changes no answer."""
+        with Referee(*pair, program=self.program) as referee:
+            before = referee.judge(WORD)
+            for path in pair:
+                path.write_bytes(b"AA\n")
+            self.expect(referee.judge(WORD) == before, "the list was replaced")
+            for path in pair:
+                path.unlink()
+            self.expect(referee.judge(WORD) == before and referee.word("word").verdict == "acceptable", "the list was removed")
+
     def texts(self, referee):
         """Texts of sheets: repaired, merged and with notes; and what is raised where there is none."""
         told = referee.repair(WORD.replace("8E", "9E"), repaired=True)
@@ -188,6 +235,7 @@ def main():
         client.games(cases)
         client.endings()
         client.threads()
+        client.faults()
     client.end(cases, "games")
 
 

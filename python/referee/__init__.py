@@ -128,8 +128,20 @@ class Broken(RefereeError):
     status = 4
 
 
+class Died(Broken):
+    """The program ended before it answered."""
+
+
+class Garbled(Broken):
+    """What came back is not an answer: half a line, or no object. The program was ended."""
+
+
+class OutOfTurn(Broken):
+    """The answer to another request came back. The program was ended."""
+
+
 class TimedOut(Broken, TimeoutError):
-    """There was no answer in time. The program was ended and started again."""
+    """There was no answer in time. The program was ended."""
 
 
 class BadRequest(RefereeError):
@@ -155,7 +167,11 @@ def text_of(game: Game) -> str:
 
 
 class Referee:
-    """A program that answers requests. It is started at once, and ended by `close` or at the end of a `with`."""
+    """A program that answers requests. It is started at once, and ended by `close` or at the end of a `with`.
+
+    A program that ended, or was ended since it did not answer as it should, is started again, and asked once more unless it took too long. With
+    `restart=False` it is not: the failure is raised, and so is one for each later request.
+    """
 
     def __init__(
         self,
@@ -167,13 +183,14 @@ class Referee:
         skip_others: bool = False,
         program: Path = "referee",
         timeout: float = 60.0,
+        restart: bool = True,
     ) -> None:
         options = [option for option, wanted in (("--first-field", first_field), ("--skip-others", skip_others)) if wanted]
         by = [] if rules is None else ["--rules", os.fspath(rules)]
         self._command = [os.fspath(program), "serve", *options, *by, os.fspath(words), os.fspath(lexicon)]
         self._lock, self._numbers, self._is_open = threading.Lock(), itertools.count(1), True
         self._process: Optional[subprocess.Popen[bytes]] = None
-        self.timeout = timeout
+        self.timeout, self._restart = timeout, restart
         self.words: int = 0
         self.version: str = ""
         self._start()
@@ -260,7 +277,7 @@ class Referee:
             response = self._answered(json.dumps(asked).encode() + b"\n", self.timeout if timeout is None else timeout)
             if response.get("id") not in (number, None):
                 self._end()
-                raise Broken(f"the answer to {response.get('id')} in place of that to {number}")
+                raise OutOfTurn(f"the answer to {response.get('id')} in place of that to {number}")
         answer = Answer(response.get("answer") or {})
         answer.status, answer.text = response["status"], response.get("text")
         if answer.status in FAILURES:
@@ -271,18 +288,24 @@ class Referee:
         """The answer to a line. A program that has ended is started again and asked again, once: no answer depends on an earlier one."""
         if not self._is_open:
             raise Broken("the client is closed")
-        for _ in range(2):
+        if self._process is None and not self._restart:
+            raise Died("the program ended, and is not started again")
+        failure = Broken("the program did not answer")
+        for _ in range(2 if self._restart else 1):
             process = self._process or self._start()
             try:
                 return _object(_exchange(process, line, timeout))
             except TimedOut:
                 self._end()
-                self._start()
+                if self._restart:
+                    self._start()
                 raise
-            except (OSError, EOFError, ValueError) as error:
-                self._end()
-                failure = error
-        raise Broken(f"the program ended: {failure}") from failure
+            except ValueError as error:
+                failure = Garbled(f"not an answer: {error}")
+            except (OSError, EOFError) as error:
+                failure = Died(f"the program ended: {error}")
+            self._end()
+        raise failure
 
     def _start(self) -> subprocess.Popen[bytes]:
         """Starts the program, and waits until it is ready."""
@@ -341,6 +364,8 @@ def _exchange(process: subprocess.Popen[bytes], line: bytes, timeout: float) -> 
             for key, _ in ready:
                 if key.fileobj is process.stdout:
                     piece = os.read(key.fd, 1 << 16)
+                    if not piece and got:
+                        raise ValueError(f"half a line, {bytes(got[:80])!r}")
                     if not piece:
                         raise EOFError(f"end of its output, status {process.poll()}")
                     got += piece
