@@ -91,6 +91,7 @@ def table(seen, folders):
     for run, _, crate, part, seconds in (it for it in asked if it[2]):
         spent[crate][part][run] += seconds
     rows = {crate: [max(it.values(), default=0) for it in parts.values()] for crate, parts in sorted(spent.items())}
+    rows = dict(sorted(rows.items(), key=lambda it: -it[1][0]))
     rows = {crate: [*row, functions(crate), len(list(TOP.glob(f"crates/{crate}/must-fail/*.edit")))] for crate, row in rows.items()}
     sums = [sum(column) for column in zip(*rows.values())] or [0] * 5
     print("| crate | proof | tests | edits | number of functions | number of edits |\n|---|---|---|---|---|---|")
