@@ -93,7 +93,7 @@ class Scripts:
         first = self.compare("The first run")
         self.expect(told == "status 3\n", told)
         self.expect(sum(int(it.split()[0]) for it in self.run("The first run", 1).splitlines()) == len(first), "counts")
-        self.run("The line")
+        self.run("The first run", 2)
         fields = [it for text in (self.folder / "sheet.tsv").read_text().splitlines() for it in text.split("\t")]
         self.expect(not [it for it in fields if it[:1] in "=+@-" and it != "-" and it], "formulas")
         self.expect(
