@@ -18,7 +18,7 @@ proof_run=${3:--}
 [ "$proof_run" = - ] || proof_run=$(realpath "$proof_run")
 cd "$(dirname "$0")/.."
 version=${4:-$("$program" -V | cut -d ' ' -f 2)}
-SOURCE_DATE_EPOCH=$(git log -1 --format=%ct)
+SOURCE_DATE_EPOCH=$(git log -1 --format=%ct 2> /dev/null || stat -c %Y CHANGELOG.md)
 export SOURCE_DATE_EPOCH
 umask 022
 room=$(mktemp -d)

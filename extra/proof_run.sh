@@ -14,8 +14,8 @@ edits=$3
 [ "$gate" = - ] || gate=$(realpath "$gate")
 [ "$edits" = - ] || edits=$(realpath "$edits")
 cd "$(dirname "$0")/.."
-commit=$(git rev-parse HEAD)
-[ -z "$(git status --porcelain --untracked-files=no)" ] || commit="$commit, with changes that are not committed"
+commit=$(git rev-parse HEAD 2> /dev/null || echo "not known, since these files are no clone")
+[ -z "$(git status --porcelain --untracked-files=no 2> /dev/null)" ] || commit="$commit, with changes that are not committed"
 
 # The last lines of what a run printed.
 ending() {
@@ -32,7 +32,7 @@ ending() {
 
 # The sum of the files of a folder that git knows: of their names and sums, in the order of their names.
 sum_of() {
-    (cd "$1" && git ls-files -z . | LC_ALL=C sort -z | xargs -0 sha256sum | sha256sum | cut -d ' ' -f 1)
+    (cd "$1" && { git ls-files -z . 2> /dev/null || find . -type f ! -path './out/*' -printf '%P\0'; } | LC_ALL=C sort -z | xargs -0 sha256sum | sha256sum | cut -d ' ' -f 1)
 }
 
 cat << END

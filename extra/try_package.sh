@@ -106,7 +106,7 @@ purges() {
 }
 makes_debian() {
     # shellcheck source=/dev/null
-    debootstrap --variant=minbase --include=python3,python3-flask,gunicorn "$(. /etc/os-release && echo "$VERSION_CODENAME")" "$inside" &&
+    timeout 900 debootstrap --variant=minbase --include=python3,python3-flask,gunicorn "$(. /etc/os-release && echo "$VERSION_CODENAME")" "$inside" &&
         mount -t proc proc "$inside/proc" && mount --bind /dev "$inside/dev"
 }
 
